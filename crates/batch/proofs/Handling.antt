@@ -10,7 +10,7 @@ use Rattle.objects.specs.Entries.{State}
 use Rattle.meaning.specs.Trees as meant
 use Rattle.meaning.specs.Trees.{Handlers, ForReason, GoOn, Pass, for_reasons}
 use Rattle.meaning.specs.Records.{TakenHandler}
-use Rattle.meaning.specs.OneThread.{Run, is_for, one, one_handler, choose_handler}
+use Rattle.meaning.specs.OneThread.{Execution, is_for, one, one_handler, choose_handler}
 use Rattle.batch.specs.Views.{block_view, handler_view, subaction_view, otherwise_view}
 use Rattle.batch.specs.Running.{CanRunHere, CanHandleHere}
 use Rattle.batch.specs.Taking.{first_of, taker, untaken, taken_by}
@@ -22,7 +22,7 @@ use Rattle.batch.proofs.ViewLemmas.{handler_view-is, subaction_view-handlers}
 -- ---- what runs
 
 one_of-first : (takes : Bool) (block : meant.Block) (others : Option meant.Block) (end : End) (held : List Held) (state : State)
-    (rest : State → Run TakenHandler) → rest state ≡ taken_by others end held state
+    (rest : State → Execution TakenHandler) → rest state ≡ taken_by others end held state
     → choose_handler takes (one block held) rest state ≡ taken_by (first_of takes block others) end held state
 one_of-first true block others end held state rest is = refl
 one_of-first false block others end held state rest is = is

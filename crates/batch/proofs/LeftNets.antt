@@ -16,7 +16,8 @@ use Rattle.meaning.specs.Labels.{holds}
 use Rattle.meaning.specs.Records.{Taken, Nothing, Took, TakenStep, TakenChild, Undone, TakenHandler, NoHandler, Handled}
 use Rattle.meaning.specs.Records.{TakenChildren, kept, kept_of_step, kept_of_child, kept_of_handler, kept_of_children}
 use Rattle.meaning.specs.Shown.{end_of, shown, shown_step, shown_child, shown_children}
-use Rattle.meaning.specs.OneThread.{Run, Ran, record_of, operate, operate_made, operate_filled, choose, is_for, choose_handler, act, go_on}
+use Rattle.meaning.specs.OneThread.{Execution, Ran, record_of, operate, operate_made, operate_filled, choose, is_for, choose_handler, act}
+use Rattle.meaning.specs.OneThread.{go_on}
 use Rattle.meaning.specs.OneThread.{go_on_children, one, one_step, one_handler, one_children}
 use Rattle.meaning.specs.Batch.{net_of, shown_of}
 use Rattle.batch.specs.Taking.{first_of, taker}
@@ -28,11 +29,11 @@ shown_ends Nothing outcome = refl
 shown_ends (Took step rest) outcome = shown_ends rest outcome
 
 -- a block and what a run of it shows leave what the run keeps
-abbrev LeavesKept : Block → Run Taken → Type 0
+abbrev LeavesKept : Block → Execution Taken → Type 0
 LeavesKept block run = left block (shown_of run) ≡ kept (record_of run)
 
 -- so does a step
-abbrev LeavesStep : Step → Run TakenStep → Type 0
+abbrev LeavesStep : Step → Execution TakenStep → Type 0
 LeavesStep step run = left_by_step step (shown_step (record_of run)) ≡ kept_of_step (record_of run)
 
 -- the block that takes an abort leaves what the handler keeps
@@ -41,7 +42,7 @@ LeavesHandled block NoHandler = Unit {0}
 LeavesHandled block (Handled handler outcome) = left (or_no_step block) (shown handler outcome) ≡ kept handler
 
 -- a subaction leaves what is kept of it
-abbrev LeavesChild : Block → Handlers → Run TakenChild → Type 0
+abbrev LeavesChild : Block → Handlers → Execution TakenChild → Type 0
 LeavesChild body handlers run = left_by_child body handlers (shown_child (record_of run)) ≡ kept_of_child (record_of run)
 
 -- an operation leaves its entry
@@ -63,14 +64,15 @@ filled_left object template labelled refusal state (Some call) =
     made_left object template labelled refusal state call (reply_at state object call)
 
 -- a branch leaves what it keeps
-choice_left : (label : ℕ) (t : Test) (then else : Block) (chosen : Bool) (then_runs else_runs : State → Run Taken) (state : State)
+choice_left : (label : ℕ) (t : Test) (then else : Block) (chosen : Bool) (then_runs else_runs : State → Execution Taken) (state : State)
     → LeavesKept then (then_runs state) → LeavesKept else (else_runs state)
     → LeavesStep (If label t then else) (choose chosen then_runs else_runs state)
 choice_left label t then else true then_runs else_runs state then_leaves else_leaves = then_leaves
 choice_left label t then else false then_runs else_runs state then_leaves else_leaves = else_leaves
 
 -- the first handler that takes an abort leaves what it keeps
-handler_left : (takes : Bool) (handler : Block) (others : Option Block) (run : State → Run Taken) (rest : State → Run TakenHandler)
+handler_left : (takes : Bool) (handler : Block) (others : Option Block) (run : State → Execution Taken)
+    (rest : State → Execution TakenHandler)
     (state : State) → LeavesKept handler (run state) → LeavesHandled others (record_of (rest state))
     → LeavesHandled (first_of takes handler others) (record_of (choose_handler takes run rest state))
 handler_left true handler others run rest state leaves others_leave = leaves
@@ -86,7 +88,8 @@ undone_left body handlers taken reason (Handled handler outcome) leaves =
     ap (λ how. left (taker_at handlers how) (shown handler outcome)) (shown_ends taken (Aborted reason)) ∙ leaves
 
 -- a subaction leaves what it keeps
-act_left : (body : Block) (handlers : Handlers) (labelled : Bool) (run : Run Taken) (handle : Option ℕ → State → Run TakenHandler)
+act_left : (body : Block) (handlers : Handlers) (labelled : Bool) (run : Execution Taken)
+    (handle : Option ℕ → State → Execution TakenHandler)
     (state : State) → LeavesKept body run
     → ((reason : Option ℕ) → LeavesHandled (taker handlers reason) (record_of (handle reason state)))
     → LeavesChild body handlers (act labelled run handle state)
@@ -96,15 +99,16 @@ act_left body handlers labelled (Ran taken (Aborted reason) labels after_body) h
     undone_left body handlers taken reason (record_of (handle reason state)) (handlers_leave reason)
 
 -- a step and those after it
-go_on_left : (step : Step) (rest : Block) (run : Run TakenStep) (rest_runs : List Held → State → Run Taken) → LeavesStep step run
+go_on_left : (step : Step) (rest : Block) (run : Execution TakenStep) (rest_runs : List Held → State → Execution Taken)
+    → LeavesStep step run
     → ((labels : List Held) (state : State) → LeavesKept rest (rest_runs labels state))
     → LeavesKept (Steps step rest) (go_on run rest_runs)
 go_on_left step rest (Ran taken Ended labels state) rest_runs leaves rest_leaves = ap₂ (λ xs ys. xs ++ ys) leaves (rest_leaves labels state)
 go_on_left step rest (Ran taken (Aborted reason) labels state) rest_runs leaves rest_leaves = ap (λ xs. xs ++ []) leaves
 
 -- a child and its later siblings
-go_on_children_left : (body : Block) (handlers : Handlers) (labelled : Bool) (younger : Children) (run : Run TakenChild)
-    (younger_run : State → Run TakenChildren) → LeavesChild body handlers run
+go_on_children_left : (body : Block) (handlers : Handlers) (labelled : Bool) (younger : Children) (run : Execution TakenChild)
+    (younger_run : State → Execution TakenChildren) → LeavesChild body handlers run
     → ((state : State) → left_by_children younger (shown_children (record_of (younger_run state))) ≡ kept_of_children
     (record_of (younger_run state)))
     → left_by_children (Child body handlers labelled younger) (shown_children (record_of (go_on_children run younger_run)))
@@ -159,7 +163,7 @@ mutual
       (λ reason. handlers_left handlers labels reason state)) (children_left younger labels)
 
 -- where the transaction ended that is what it keeps, and else nothing
-transaction_left : (block : Block) (run : Run Taken) → LeavesKept block run → left_by_transaction block (shown_of run) ≡ net_of run
+transaction_left : (block : Block) (run : Execution Taken) → LeavesKept block run → left_by_transaction block (shown_of run) ≡ net_of run
 transaction_left block (Ran taken Ended labels state) leaves =
     ap (λ outcome. where_ended outcome (left block (shown taken Ended))) (shown_ends taken Ended) ∙ leaves
 transaction_left block (Ran taken (Aborted reason) labels state) leaves =

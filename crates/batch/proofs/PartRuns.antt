@@ -11,7 +11,7 @@ use Rattle.meaning.specs.Trees as meant
 use Rattle.meaning.specs.Records as record_tree
 use Rattle.meaning.specs.Records.{Nothing, Took, TakenStep, entries, entries_of_step, kept, kept_of_step}
 use Rattle.meaning.specs.Shown.{AtEnd, shown_step, shown}
-use Rattle.meaning.specs.OneThread.{Run, record_of, outcome_of, labels_of, state_of, one, one_step}
+use Rattle.meaning.specs.OneThread.{Execution, record_of, outcome_of, labels_of, state_of, one, one_step}
 use Rattle.meaning.proofs.Nets.{step_leads}
 use Rattle.meaning.proofs.Parts.{one-Steps, one-NoStep, go_on-ended, go_on-aborted}
 use Rattle.batch.specs.Views.{step_view, steps_view, taken_view, before_end}
@@ -141,7 +141,7 @@ module _ {V : Type 0} {g : Ground V} (on : IsGround g) where
       }
 
   -- the run of steps that were taken, with this end
-  shows_run : (run : Run record_tree.Taken) (before now : V) (taken : List Taken) (done : List TakenStep) (made : Record)
+  shows_run : (run : Execution record_tree.Taken) (before now : V) (taken : List Taken) (done : List TakenStep) (made : Record)
       → record_of run ≡ record_after done Nothing → outcome_of run ≡ made.outcome → made.taken.items ≡ taken
       → map taken_view taken ≡ map shown_step done → g.Took before (all_entries done) (all_kept done) now
       → ShowsRun g run made before now

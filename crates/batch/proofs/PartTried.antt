@@ -13,7 +13,7 @@ use Rattle.objects.specs.Entries.{State}
 use Rattle.meaning.specs.Records.{Taken, TakenChild, TakenChildren, entries_of_child, entries_of_children, kept_of_child, kept_of_children}
 use Rattle.meaning.specs.Records.{entries_of_handler, kept_of_handler, entries}
 use Rattle.meaning.specs.Shown.{shown, shown_child, shown_children, ShownChild, ShownChildren}
-use Rattle.meaning.specs.OneThread.{Run, Ran, record_of, outcome_of, labels_of, state_of, label_if, one, one_handler, one_children}
+use Rattle.meaning.specs.OneThread.{Execution, Ran, record_of, outcome_of, labels_of, state_of, label_if, one, one_handler, one_children}
 use Rattle.meaning.proofs.Nets.{block_leads, handlers_lead, act_leads}
 use Rattle.meaning.proofs.Parts.{act-ended, act-aborted, one_children-NoChild, one_children-Child, GoesOn, go_on_children-ended}
 use Rattle.meaning.proofs.Parts.{go_on_children-aborted}
@@ -73,7 +73,7 @@ acted_leads child held state =
     (λ reason. handlers_lead child.handlers held reason state)
 
 -- an aborted body's record and end, and that nothing of it is kept
-pub record IsUndone {V : Type 0} (g : Ground V) (run : Run Taken) (body : Record) (before next : V) : Type 0 where
+pub record IsUndone {V : Type 0} (g : Ground V) (run : Execution Taken) (body : Record) (before next : V) : Type 0 where
   pub tree : record_view body ≡ shown (record_of run) (outcome_of run)
   pub end : body.outcome ≡ outcome_of run
   pub took : g.Took before (entries (record_of run)) [] next
@@ -112,7 +112,7 @@ module _ {V : Type 0} {g : Ground V} (on : IsGround g) where
         took = subst (λ r. g.Took before (entries_of_child (record_of r)) (kept_of_child (record_of r)) now) (sym acts) shows.took;
       }
 
-  undone_state : (run : Run Taken) (body : Record) (before next : V) → IsUndone g run body before next → g.state next ≡ g.state before
+  undone_state : (run : Execution Taken) (body : Record) (before next : V) → IsUndone g run body before next → g.state next ≡ g.state before
   undone_state run body before next undone = on.leads before next _ [] undone.took
 
   pub handlers_can_run : (child : Tried) (held : List Held) (before next : V) (body : Record) → CanTryHere child held (g.state before)
@@ -218,7 +218,7 @@ module _ {V : Type 0} {g : Ground V} (on : IsGround g) where
       }
 
   -- the run of children that were tried, with this end
-  shows_children : (run : Run TakenChildren) (before now : V) (tried : List (Record × Option Record)) (done : List TakenChild)
+  shows_children : (run : Execution TakenChildren) (before now : V) (tried : List (Record × Option Record)) (done : List TakenChild)
       (outcomes : List Held) (how : End)
       → record_of run ≡ children_after done TakenChildren.NoChild → outcome_of run ≡ how → (how ≡ Ended → outcomes ≡ labels_of run)
       → map tried_view tried ≡ map shown_child done → g.Took before (all_entries done) (all_kept done) now

@@ -17,7 +17,7 @@ use Rattle.meaning.specs.Trees as meant
 use Rattle.objects.specs.Entries.{reply_at}
 use Rattle.meaning.specs.Labels.{holds_of}
 use Rattle.meaning.specs.Shown.{ShownStep}
-use Rattle.meaning.specs.OneThread.{Run, label_if, as_branch, one, one_step, one_children}
+use Rattle.meaning.specs.OneThread.{Execution, label_if, as_branch, one, one_step, one_children}
 use Rattle.batch.specs.Views.{block_view, step_view, subaction_view, children_view, record_view, taken_view, tried_view}
 use Rattle.batch.specs.Running.{CanStepHere, acted}
 use Rattle.batch.specs.declared.tree.Block.{Block}
@@ -75,7 +75,7 @@ module _ {V : Type 0} {g : Ground V} (on : IsGround g) where
 
   -- ---- ifs
 
-  branch_shows : (chosen : Bool) (run : Run _) (held seen : List Held) (before now : V) (done : Record) (branch : Box Record Global)
+  branch_shows : (chosen : Bool) (run : Execution _) (held seen : List Held) (before now : V) (done : Record) (branch : Box Record Global)
       → branch.value ≡ done → ShowsRun g run done before now → seen ≡ held
       → ShowsStep g (as_branch chosen run) (taken.If chosen branch) done.outcome held seen before now
   branch_shows chosen run held seen before now done branch boxes shows labels =

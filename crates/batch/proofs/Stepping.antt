@@ -13,7 +13,7 @@ use Rattle.objects.specs.Entries.{State, reply_at, after_call}
 use Rattle.meaning.specs.Labels.{holds, holds_of}
 use Rattle.meaning.specs.Trees as meant
 use Rattle.meaning.specs.Records.{Performed, Filled, Acted, InParallel, TakenStep}
-use Rattle.meaning.specs.OneThread.{Run, Ran, label_if, operate, operate_made, operate_filled, choose, act, as_step, one, one_step}
+use Rattle.meaning.specs.OneThread.{Execution, Ran, label_if, operate, operate_made, operate_filled, choose, act, as_step, one, one_step}
 use Rattle.meaning.specs.OneThread.{one_handler, one_children}
 use Rattle.batch.specs.Views.{block_view, step_view, subaction_view, children_view}
 use Rattle.batch.specs.Running.{CanStepHere, acted}
@@ -24,7 +24,7 @@ use Rattle.batch.proofs.ViewLemmas.{step_view-Op, step_view-If, step_view-Sub, s
 use Rattle.batch.proofs.CanRun.{if-holds}
 
 -- what a step is, seen as a tree
-shows_as : (step : Step) (tree : meant.Step) (held : List Held) (state : State) (run : Run TakenStep) → step_view step ≡ tree
+shows_as : (step : Step) (tree : meant.Step) (held : List Held) (state : State) (run : Execution TakenStep) → step_view step ≡ tree
     → one_step tree held state ≡ run → run ≡ one_step (step_view step) held state
 shows_as step tree held state run is runs = sym (ap (λ s. one_step s held state) is ∙ runs)
 

@@ -1,9 +1,9 @@
--- Names, and the texts of a batch's numbers: of each object, item and reason by its number.
+-- Naming, and the texts of a batch's numbers: of each object, item and reason by its number.
 use Rattle.std.specs.Prelude.{ℕ, ◌&&◌, ◌||◌, ◌==◌, Bool, IsTrue, List, [], length, map, nat_lt, nat_le, slice_index_or, string_bytes}
 use Rattle.std.specs.Prelude.{String, if◌then◌else◌}
 use Rattle.std.specs.List.{list_all}
 use Rattle.std.specs.declared.alloc.Global.{Global}
-use Rattle.meaning.specs.Words.{Names}
+use Rattle.meaning.specs.Words.{Naming}
 use Rattle.meaning.specs.declared.limits.TheConstants.{MAX_NAME}
 
 abbrev pub is_between : ℕ → ℕ → ℕ → Bool
@@ -44,7 +44,7 @@ abbrev pub texts_of : List (String Global) → List (List ℕ)
 texts_of names = map (λ name. string_bytes name) names
 
 -- a number that has no name has the empty text
-abbrev pub names_of : Texts → Names
+abbrev pub names_of : Texts → Naming
 names_of texts = record {
   object = λ object. slice_index_or texts.objects object [];
   item = λ item. slice_index_or texts.items item.0 [];

@@ -5,7 +5,7 @@ use Rattle.objects.specs.Entries.{State, kinds}
 use Rattle.meaning.specs.Trees.{Block, Step, Handlers, Children}
 use Rattle.meaning.specs.Records.{TakenChild, TakenHandler, NoHandler, Handled}
 use Rattle.meaning.specs.Shown.{Shown, shown}
-use Rattle.meaning.specs.OneThread.{Run, act, one, one_handler}
+use Rattle.meaning.specs.OneThread.{Execution, act, one, one_handler}
 use Rattle.meaning.specs.WellFormed.{Label, IsWellFormed, IsWellFormedStep, AreWellFormedHandlers, AreWellFormed, operations}
 use Rattle.meaning.specs.WellFormed.{operations_of_step, operations_of_handlers, operations_of_children, StateHasRoom}
 use Rattle.meaning.specs.Running.{AreHeldBy}
@@ -45,7 +45,7 @@ abbrev pub StillSeen : List Held → List Held → Type 0
 StillSeen before now = (more : List Held) × (now ≡ before ++ more)
 
 -- what one thread does with a subaction
-abbrev pub acted : Tried → List Held → State → Run TakenChild
+abbrev pub acted : Tried → List Held → State → Execution TakenChild
 acted child held state = act child.labelled (one child.body held state) (one_handler child.handlers held) state
 
 -- what a handler that ran shows

@@ -6,7 +6,7 @@ use Rattle.meaning.specs.declared.held.Held.{Held}
 use Rattle.objects.specs.Entries.{State}
 use Rattle.meaning.specs.Trees.{Block, Handlers, ForReason, Otherwise, GoOn, Pass}
 use Rattle.meaning.specs.Records.{TakenHandler, NoHandler}
-use Rattle.meaning.specs.OneThread.{Run, Ran, as_handler, is_for, one}
+use Rattle.meaning.specs.OneThread.{Execution, Ran, as_handler, is_for, one}
 
 -- this block, where it takes the abort, or else what the others say
 abbrev pub first_of : Bool → Block → Option Block → Option Block
@@ -28,6 +28,6 @@ untaken GoOn reason = Ended
 untaken Pass reason = Aborted reason
 
 -- what comes of an abort: the run of the block that takes it, or else this end
-abbrev pub taken_by : Option Block → End → List Held → State → Run TakenHandler
+abbrev pub taken_by : Option Block → End → List Held → State → Execution TakenHandler
 taken_by None end held state = Ran NoHandler end [] state
 taken_by (Some block) end held state = as_handler (one block held state)

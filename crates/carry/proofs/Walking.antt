@@ -5,7 +5,7 @@ use Rattle.std.proofs.lemmas.Bool.{ltb-true}
 use Rattle.std.proofs.lemmas.Option.{slice_get-get_or, slice_get_within, get_or_from_slice_get}
 use Rattle.std.proofs.Math.ListN.{drop_of_length-le}
 use Rattle.objects.specs.declared.value.Value.{Value}
-use Rattle.meaning.specs.Words.{Names}
+use Rattle.meaning.specs.Words.{Naming}
 use Rattle.batch.specs.Limits.{entries_in}
 use Rattle.batch.proofs.CountLemmas.{left}
 use Rattle.carry.specs.Carried.{first_unfit, object_text, object_texts, unfit_after, unfit_or}
@@ -26,7 +26,7 @@ module _ (values : List Value) (i : ℕ) (value : Value) (there : slice_get valu
   pub next_value : drop i values ≡ value ∷ drop (i + 1) values
   next_value = next_element values i value there
 
-  pub next_object : (names : Names) → object_texts names i (drop i values)
+  pub next_object : (names : Naming) → object_texts names i (drop i values)
       ≡ object_text names i value ∷ object_texts names (i + 1) (drop (i + 1) values)
   next_object names = ap (object_texts names i) next_value
 
@@ -46,5 +46,5 @@ module _ (values : List Value) (i : ℕ) (value : Value) (there : slice_get valu
 pub none_fits : (version entries i : ℕ) (values : List Value) → length values ≤ i → first_unfit version i entries (drop i values) ≡ None
 none_fits version entries i values le = ap (first_unfit version i entries) (drop_of_length-le values le)
 
-pub no_object : (names : Names) (i : ℕ) (values : List Value) → length values ≤ i → object_texts names i (drop i values) ≡ []
+pub no_object : (names : Naming) (i : ℕ) (values : List Value) → length values ≤ i → object_texts names i (drop i values) ≡ []
 no_object names i values le = ap (object_texts names i) (drop_of_length-le values le)

@@ -2,11 +2,11 @@
 use Rattle.std.proofs.Common.{◌≡◌, ℕ, List, ◌++◌, ap, sym, ◌∙◌, append_assoc}
 use Rattle.std.specs.Prelude.{codes}
 use Rattle.atoms.specs.declared.item.Item.{Item}
-use Rattle.meaning.specs.Words.{Names}
+use Rattle.meaning.specs.Words.{Naming}
 use Rattle.carry.specs.Carried.{item_text, pair_text, quoted}
 
 -- a pair, as it is written
-pub pair_parts : (names : Names) (pair : Item × Item)
+pub pair_parts : (names : Naming) (pair : Item × Item)
     → codes "[\"" ++ (names.item pair.0 ++ (codes "\", \"" ++ (names.item pair.1 ++ codes "\"]"))) ≡ pair_text names pair
 pair_parts names pair =
     let key = names.item pair.0 in let item = names.item pair.1 in let quote = codes "\"" in let comma = codes ", "

@@ -8,7 +8,7 @@ use Rattle.objects.specs.Objects.{kind_of_value}
 use Rattle.objects.specs.declared.value.Value.{Value}
 use Rattle.objects.specs.declared.value.Value.TheVariants as value
 use Rattle.meaning.specs.WellFormed.{size_of}
-use Rattle.meaning.specs.Words.{Names, joined, members}
+use Rattle.meaning.specs.Words.{Naming, joined_by, members}
 use Rattle.vocabulary.specs.Words.{kind_text}
 use Rattle.batch.specs.Limits.{entries_in}
 use Rattle.carry.specs.declared.document.Misfit.{Misfit}
@@ -40,21 +40,21 @@ first_unfit version place entries [] = None
 first_unfit version place entries (v ∷ values) =
     unfit_or place (first_unfit version (place + 1) (entries + entries_in v) values) (unfit_after version entries v)
 
--- JSON texts and lists. Names have ASCII letters, digits and signs alone that JSON takes as they are, so that nothing is escaped.
+-- JSON texts and lists. Naming have ASCII letters, digits and signs alone that JSON takes as they are, so that nothing is escaped.
 abbrev pub quoted : List ℕ → List ℕ
 quoted name = codes "\"" ++ name ++ codes "\""
 
 abbrev pub list_text : List (List ℕ) → List ℕ
-list_text texts = codes "[" ++ joined (codes ", ") texts ++ codes "]"
+list_text texts = codes "[" ++ joined_by (codes ", ") texts ++ codes "]"
 
-abbrev pub item_text : Names → Item → List ℕ
+abbrev pub item_text : Naming → Item → List ℕ
 item_text names x = quoted (names.item x)
 
-abbrev pub pair_text : Names → Item × Item → List ℕ
+abbrev pub pair_text : Naming → Item × Item → List ℕ
 pair_text names pair = list_text (item_text names pair.0 ∷ item_text names pair.1 ∷ [])
 
 -- a value as a start: members and keys in the order of their numbers, a queue from its front
-abbrev pub start_text : Names → Value → List ℕ
+abbrev pub start_text : Naming → Value → List ℕ
 start_text names (value.Account n) = decimal n
 start_text names (value.Counter n) = signed_decimal n
 start_text names (value.Set s) = list_text (map (item_text names) (members s))
@@ -62,13 +62,13 @@ start_text names (value.Queue q) = list_text (map (item_text names) q)
 start_text names (value.Directory d) = list_text (map (pair_text names) (finite_map.entries d))
 start_text names (value.Max n) = decimal n
 
-abbrev pub object_text : Names → ℕ → Value → List ℕ
+abbrev pub object_text : Naming → ℕ → Value → List ℕ
 object_text names n v =
     codes "{\"name\": " ++ quoted (names.object n) ++ codes ", \"kind\": " ++ quoted (kind_text (kind_of_value v)) ++ codes ", \"start\": "
     ++ start_text names v ++ codes "}"
 
 -- the objects from place n on
-abbrev pub object_texts : Names → ℕ → State → List (List ℕ)
+abbrev pub object_texts : Naming → ℕ → State → List (List ℕ)
 object_texts names n [] = []
 object_texts names n (v ∷ values) = object_text names n v ∷ object_texts names (n + 1) values
 
@@ -77,7 +77,7 @@ abbrev pub document_head : ℕ → List ℕ
 document_head version = codes "{\"ordtx\": " ++ decimal version ++ codes ",\n\"objects\": [\n"
 
 -- the document of these objects without a transaction, an object a line
-abbrev pub carried_text : ℕ → Names → State → List ℕ
+abbrev pub carried_text : ℕ → Naming → State → List ℕ
 carried_text version names values =
-    document_head version ++ joined (codes ",\n") (object_texts names 0 values)
+    document_head version ++ joined_by (codes ",\n") (object_texts names 0 values)
     ++ codes "\n],\n\"transactions\": [\n]}\n"

@@ -6,7 +6,7 @@ use Rattle.objects.specs.Entries.{State}
 use Rattle.objects.specs.Objects.{kind_of_value}
 use Rattle.objects.specs.declared.value.Value.{Value}
 use Rattle.meaning.specs.Batch.{final_state}
-use Rattle.meaning.specs.Words.{Names}
+use Rattle.meaning.specs.Words.{Naming}
 use Rattle.vocabulary.specs.Words.{kind_text}
 use Rattle.batch.specs.Names.{Texts, names_of}
 use Rattle.doc_tree.specs.Scope.{Table, is_listed, place_of}
@@ -22,7 +22,7 @@ pub record Named : Type 0 where
 
 -- an object that a document starts with: its place and its value among those that it is taken from, and their names
 pub record StartOf : Type 0 where
-  pub names : Names
+  pub names : Naming
   pub place : ℕ
   pub value : Value
 

@@ -5,7 +5,7 @@ use Rattle.json.specs.Find.{as_array, get}
 use Rattle.json.specs.Json.{Json, Items, no_items, item, document}
 use Rattle.json.specs.Print.{print}
 use Rattle.json.specs.Tree.{json_tokens}
-use Rattle.meaning.specs.Words.{joined}
+use Rattle.meaning.specs.Words.{joined_by}
 use Rattle.carry.specs.Carried.{document_head}
 use Rattle.carry.specs.Joined.{StartOf, object_text_of}
 
@@ -28,5 +28,5 @@ transaction_texts bytes = item_texts (transactions_of (tree_of bytes))
 -- the document of a version, of these starts with the transactions of that one, a start or a transaction a line
 abbrev pub joined_text : ℕ → List StartOf → List ℕ → List ℕ
 joined_text version starts bytes =
-    document_head version ++ joined (codes ",\n") (map object_text_of starts)
-    ++ codes "\n],\n\"transactions\": [\n" ++ joined (codes ",\n") (transaction_texts bytes) ++ codes "\n]}\n"
+    document_head version ++ joined_by (codes ",\n") (map object_text_of starts)
+    ++ codes "\n],\n\"transactions\": [\n" ++ joined_by (codes ",\n") (transaction_texts bytes) ++ codes "\n]}\n"

@@ -2,7 +2,7 @@
 ghost use Rattle.std.specs.Prelude.{◌≡◌, ◌<◌, ◌≤◌, ◌+◌, ◌^◌, ◌++◌, IfOk, None, OnOk, codes, length, map, string_bytes};
 ghost use Rattle.std.specs.FinMap as finite_map;
 ghost use Rattle.meaning.specs.WellFormed.{size_of};
-ghost use Rattle.meaning.specs.Words.{joined, members};
+ghost use Rattle.meaning.specs.Words.{joined_by, members};
 ghost use Rattle.batch.specs.Limits.{entries_in};
 ghost use Rattle.batch.specs.Names.{names_of};
 ghost use Rattle.doc_rules.specs.Limits.{limits_of};
@@ -137,7 +137,7 @@ pub(crate) fn write_head(out: &mut String, version: u8) -> Result<(), NoMemory>
 fn write_objects(out: &mut String, names: &Names, objects: &Objects) -> Result<(), NoMemory>
     requires { length objects.now < 2 ^ 32 }
     ensures { OnOk result (string_bytes out.new ≡ string_bytes out.old
-        ++ joined (codes ",\n") (object_texts (names_of names.now) 0 objects.now)) }
+        ++ joined_by (codes ",\n") (object_texts (names_of names.now) 0 objects.now)) }
 {
     let mut between = "";
     for object in 0..objects.len() as u32 {
@@ -199,7 +199,7 @@ fn write_start(out: &mut String, names: &Names, value: &Value) -> Result<(), NoM
 
 fn write_members(out: &mut String, names: &Names, set: &ItemSet) -> Result<(), NoMemory>
     ensures { OnOk result (string_bytes out.new ≡ string_bytes out.old
-        ++ joined (codes ", ") (map (item_text (names_of names.now)) (members set.now))) }
+        ++ joined_by (codes ", ") (map (item_text (names_of names.now)) (members set.now))) }
 {
     let mut between = "";
     for member in set.items().iter() {
@@ -212,7 +212,7 @@ fn write_members(out: &mut String, names: &Names, set: &ItemSet) -> Result<(), N
 
 fn write_queue(out: &mut String, names: &Names, queue: &Queue) -> Result<(), NoMemory>
     ensures { OnOk result (string_bytes out.new ≡ string_bytes out.old
-        ++ joined (codes ", ") (map (item_text (names_of names.now)) queue.now)) }
+        ++ joined_by (codes ", ") (map (item_text (names_of names.now)) queue.now)) }
 {
     let mut between = "";
     for item in queue.items().iter() {
@@ -225,7 +225,7 @@ fn write_queue(out: &mut String, names: &Names, queue: &Queue) -> Result<(), NoM
 
 fn write_pairs(out: &mut String, names: &Names, directory: &Directory) -> Result<(), NoMemory>
     ensures { OnOk result (string_bytes out.new ≡ string_bytes out.old
-        ++ joined (codes ", ") (map (pair_text (names_of names.now)) (finite_map.entries
+        ++ joined_by (codes ", ") (map (pair_text (names_of names.now)) (finite_map.entries
         directory.now))) }
 {
     let mut between = "";

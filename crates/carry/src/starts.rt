@@ -3,14 +3,14 @@ ghost use Rattle.std.specs.Prelude.{◌≡◌, ◌<◌, ◌^◌, ◌++◌, IfOk,
 ghost use Rattle.std.specs.List.{IsDistinct};
 ghost use Rattle.std.specs.Str.{bytes_eq};
 ghost use Rattle.batch.specs.Names.{texts_of};
-ghost use Rattle.meaning.specs.Words.{joined as joined_texts};
+ghost use Rattle.meaning.specs.Words.{joined_by};
 ghost use Rattle.carry.specs.Carried.{first_unfit};
 ghost use Rattle.doc_tree.specs.Scope.{is_listed};
 ghost use Rattle.carry.specs.Joined.{added, are_of_one_kind, ended, first_clash, joined, named_view, object_text_of, own, start_at, start_view, value_of};
 
 use crate::document::{Misfit, entries_in, unfit_after, write_object};
 use batch::Names;
-use doc_tree::hashing::{NameHashing, Texts};
+use doc_tree::hashing::{NameHashing, TextSet};
 use indexmap::IndexSet;
 use objects::{Objects, Value};
 use report::object_name;
@@ -41,7 +41,7 @@ pub fn name_table(
     names: &Names,
     count: u32,
     hashing: NameHashing,
-) -> Result<Texts, NoMemory>
+) -> Result<TextSet, NoMemory>
     requires all { count ≡ length names.now.objects }
     requires apart { IsDistinct bytes_eq names.now.objects }
     ensures { IfOk result (λ table. texts_of table.keys ≡ names.now.objects) }
@@ -63,8 +63,8 @@ pub fn join<'a>(
     alloc: Global,
     first: NamedObjects<'a>,
     next: NamedObjects<'a>,
-    first_names: &Texts,
-    next_names: &Texts,
+    first_names: &TextSet,
+    next_names: &TextSet,
 ) -> Result<Vec<Start<'a>>, NoMemory>
     requires few_first { length first.objects.now < 2 ^ 32 }
     requires few_next { length next.objects.now < 2 ^ 32 }
@@ -84,7 +84,7 @@ fn add_own<'a>(
     starts: &mut Vec<Start<'a>>,
     first: NamedObjects<'a>,
     next: NamedObjects<'a>,
-    first_names: &Texts,
+    first_names: &TextSet,
 ) -> Result<(), NoMemory>
     requires few_first { length first.objects.now < 2 ^ 32 }
     requires few_next { length next.objects.now < 2 ^ 32 }
@@ -111,7 +111,7 @@ fn add_own<'a>(
 }
 
 // The object of that name, as the first has it.
-fn ended<'a>(first: NamedObjects<'a>, first_names: &Texts, name: &str) -> Option<Start<'a>>
+fn ended<'a>(first: NamedObjects<'a>, first_names: &TextSet, name: &str) -> Option<Start<'a>>
     requires few { length first.objects.now < 2 ^ 32 }
     requires named { texts_of first_names.now.keys ≡ first.names.now.objects }
     ensures { option_map start_view result ≡ ended (named_view first.entry) name.now }
@@ -144,7 +144,7 @@ fn start_at<'a>(named: NamedObjects<'a>, place: usize) -> Option<Start<'a>>
 fn add_others<'a>(
     starts: &mut Vec<Start<'a>>,
     first: NamedObjects<'a>,
-    next_names: &Texts,
+    next_names: &TextSet,
 ) -> Result<(), NoMemory>
     requires few { length first.objects.now < 2 ^ 32 }
     ensures { OnOk result (map start_view starts.new.items
@@ -167,7 +167,7 @@ fn add_others<'a>(
 }
 
 // Whether a name is in the table.
-fn is_listed(name: &str, names: &Texts) -> bool
+fn is_listed(name: &str, names: &TextSet) -> bool
     ensures { result ≡ is_listed name.now (texts_of names.now.keys) }
 {
     match names.get_index_of(name) {
@@ -229,7 +229,7 @@ pub fn start_name<'a>(start: &Start<'a>) -> &'a str
 // Writes the starts, one a line.
 pub(crate) fn write_starts(out: &mut String, starts: &[Start<'_>]) -> Result<(), NoMemory>
     ensures { OnOk result (string_bytes out.new ≡ string_bytes out.old
-        ++ joined_texts (codes ",\n") (map object_text_of (map start_view starts.now))) }
+        ++ joined_by (codes ",\n") (map object_text_of (map start_view starts.now))) }
 {
     let mut between = "";
     for start in starts.iter() {

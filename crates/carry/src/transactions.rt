@@ -3,7 +3,7 @@ ghost use Rattle.std.specs.Prelude.{◌≡◌, ◌++◌, IfOk, OnOk, Some, codes
 ghost use Rattle.json.specs.Find.{as_array, get};
 ghost use Rattle.json.specs.Tree.{HasNumbers, ItemsHaveNumbers};
 ghost use Rattle.json.specs.Value.{items_view, value_view};
-ghost use Rattle.meaning.specs.Words.{joined};
+ghost use Rattle.meaning.specs.Words.{joined_by};
 ghost use Rattle.carry.specs.Joined.{start_view};
 ghost use Rattle.carry.specs.Transactions.{item_texts, joined_text, transaction_texts, transactions_of};
 
@@ -39,7 +39,7 @@ pub fn carried_into(
 // Writes the transactions of a document, one a line.
 fn write_transactions(alloc: Global, out: &mut String, document: &[u8]) -> Result<(), NoMemory>
     ensures { OnOk result (string_bytes out.new ≡ string_bytes out.old
-        ++ joined (codes ",\n") (transaction_texts document.now)) }
+        ++ joined_by (codes ",\n") (transaction_texts document.now)) }
 {
     let mut scratch = Scratch::new(alloc);
     match Value::from_slice(alloc, document, &mut scratch) {
@@ -54,7 +54,7 @@ fn write_transactions(alloc: Global, out: &mut String, document: &[u8]) -> Resul
 fn write_transactions_of(alloc: Global, out: &mut String, tree: &Value<'_>) -> Result<(), NoMemory>
     requires { HasNumbers (value_view tree.now) }
     ensures { OnOk result (string_bytes out.new ≡ string_bytes out.old
-        ++ joined (codes ",\n") (item_texts (transactions_of (Some (value_view tree.now))))) }
+        ++ joined_by (codes ",\n") (item_texts (transactions_of (Some (value_view tree.now))))) }
 {
     match transactions_of(tree) {
         Some(transactions) => write_items(alloc, out, transactions),
@@ -75,8 +75,8 @@ fn transactions_of<'t, 'a>(tree: &'t Value<'a>) -> Option<&'t Vec<Value<'a>>>
 
 fn write_items(alloc: Global, out: &mut String, items: &Vec<Value<'_>>) -> Result<(), NoMemory>
     requires { ItemsHaveNumbers (items_view items.now.items) }
-    ensures { OnOk result (string_bytes out.new
-        ≡ string_bytes out.old ++ joined (codes ",\n") (item_texts (items_view items.now.items))) }
+    ensures { OnOk result (string_bytes out.new ≡ string_bytes out.old
+        ++ joined_by (codes ",\n") (item_texts (items_view items.now.items))) }
 {
     let mut between = "";
     for item in items {

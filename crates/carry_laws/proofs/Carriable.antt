@@ -9,7 +9,7 @@ use Rattle.atoms.specs.declared.item.Item.{Item}
 use Rattle.objects.specs.Entries.{State}
 use Rattle.objects.specs.declared.value.Value.{Value}
 use Rattle.objects.specs.declared.value.Value.TheVariants as value
-use Rattle.meaning.specs.Words.{Names, members}
+use Rattle.meaning.specs.Words.{Naming, members}
 use Rattle.batch.specs.Limits.{entries_in}
 use Rattle.batch.specs.Names.{AreNames, is_name}
 use Rattle.meaning.specs.WellFormed.{size_of}
@@ -42,12 +42,12 @@ first_fits version place entries v values e =
     by false false l m none = record { small = ltb-false _ _ l; few = ltb-false _ _ m; rest = none }
 
 -- the members of a set and the keys of a directory have names of their own
-abbrev pub IsApart : Names → Value → Type 0
+abbrev pub IsApart : Naming → Value → Type 0
 IsApart names (value.Set s) = Apart (map names.item (members s))
 IsApart names (value.Directory d) = Apart (map names.item (finite_map.keys d))
 IsApart names v = ⊤
 
-module _ (names : Names) where
+module _ (names : Naming) where
   pub writable : (version : ℕ) (v : Value) → size_of v ≤ MAX_START → ((x : Item) → HasItem v x → IsNamed version names x)
       → IsWritable version names v
   writable version (value.Account n) small named = small

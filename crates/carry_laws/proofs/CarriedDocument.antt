@@ -3,7 +3,7 @@ use Rattle.std.proofs.Common.{◌≡◌, ℕ, ◌+◌, ◌*◌, ◌≤◌, [], �
 use Rattle.std.specs.List.{AllByRecursion}
 use Rattle.serde_json.specs.Data.{no_items}
 use Rattle.objects.specs.Entries.{State}
-use Rattle.meaning.specs.Words.{Names}
+use Rattle.meaning.specs.Words.{Naming}
 use Rattle.batch.specs.Limits.{all_entries_in, entries_in}
 use Rattle.batch.specs.Names.{Texts, names_of}
 use Rattle.doc_tree.specs.Asked as asked
@@ -25,13 +25,13 @@ use Rattle.doc_tokens.proofs.PulledDocument.{version_is}
 use Rattle.doc_rules.proofs.LimitLemmas.{limits_within}
 
 -- By later tables the objects are the same. So many texts are new at most.
-record SpellsState (names : Names) (values : State) (before : Numbers) (spelled : State × Numbers) : Type 0 where
+record SpellsState (names : Naming) (values : State) (before : Numbers) (spelled : State × Numbers) : Type 0 where
   grows : Grows before.items spelled.1.items
   few : length spelled.1.items ≤ length before.items + 2 * all_entries_in values
   same : (texts : Texts) → Grows spelled.1.items texts.items → length texts.items ≤ 4294967295
       → AreSame names values (names_of texts) spelled.0
 
-module _ (version : ℕ) (carried : IsCarriedVersion version) (names : Names) where
+module _ (version : ℕ) (carried : IsCarriedVersion version) (names : Naming) where
   state_spelled : (n entries : ℕ) (values : State) (numbers : Numbers) → first_unfit version n entries values ≡ None
       → AllByRecursion (IsApart names) values
       → SpellsState names values numbers (starts_of version numbers (objects_data names n values))

@@ -16,7 +16,7 @@ use Rattle.objects.specs.declared.kind.Kind.{Kind}
 use Rattle.objects.specs.declared.kind.Kind.TheVariants as kind
 use Rattle.objects.specs.declared.value.Value.{Value}
 use Rattle.objects.specs.declared.value.Value.TheVariants as value
-use Rattle.meaning.specs.Words.{Names, members}
+use Rattle.meaning.specs.Words.{Naming, members}
 use Rattle.vocabulary.specs.Words.{kind_text}
 use Rattle.batch.specs.Limits.{entries_in}
 use Rattle.batch.specs.Names.{is_name}
@@ -77,7 +77,7 @@ pub signed_back : (z : ℤ) → size_of (value.Counter z) ≤ MAX_START → sign
 signed_back (pos n) small = rw (lt-ltb n (2 ^ 63) (omega arith)) (rw (le-leb n MAX_START small))
 signed_back (negsuc n) small = rw (le-leb (suc n) MAX_START small)
 
-module _ (version : ℕ) (carried : IsCarriedVersion version) (names : Names) where
+module _ (version : ℕ) (carried : IsCarriedVersion version) (names : Naming) where
   entries_meet : (xs : List Item) → AllByRecursion (IsNamed version names) xs
       → Meet version (length xs) (entries_asked version (items_data names xs))
   unfolding entry_asked

@@ -19,7 +19,7 @@ use Rattle.objects.specs.declared.kind.Kind.{Kind}
 use Rattle.objects.specs.declared.kind.Kind.TheVariants as kind
 use Rattle.objects.specs.declared.value.Value.{Value}
 use Rattle.objects.specs.declared.value.Value.TheVariants as value
-use Rattle.meaning.specs.Words.{Names, members, joined}
+use Rattle.meaning.specs.Words.{Naming, members, joined_by}
 use Rattle.vocabulary.specs.Words.{kind_text}
 use Rattle.batch.specs.Names.{is_name}
 use Rattle.carry.specs.Carried.{carried_text, document_head, item_text, object_text, object_texts, pair_text, quoted, start_text}
@@ -29,18 +29,18 @@ use Rattle.carry_laws.proofs.Listed.{AreWritable, IsWritable, IsNamed, AreNamedB
 use Rattle.carry_laws.proofs.NamesPlain.{name_plain}
 use Rattle.carry_laws.proofs.Written.{AllWrite, Writes, joined_lexed, list_written, number_written, quoted_lexed, text_written}
 
-abbrev pub items_json : Names → List Item → json.Items
+abbrev pub items_json : Naming → List Item → json.Items
 items_json names [] = json.no_items
 items_json names (x ∷ xs) = json.item (json.string (names.item x)) (items_json names xs)
 
-abbrev pub pair_json : Names → Item × Item → json.Json
+abbrev pub pair_json : Naming → Item × Item → json.Json
 pair_json names pair = json.array (json.item (json.string (names.item pair.0)) (json.item (json.string (names.item pair.1)) json.no_items))
 
-abbrev pub pairs_json : Names → List (Item × Item) → json.Items
+abbrev pub pairs_json : Naming → List (Item × Item) → json.Items
 pairs_json names [] = json.no_items
 pairs_json names (pair ∷ pairs) = json.item (pair_json names pair) (pairs_json names pairs)
 
-abbrev pub start_json : Names → Value → json.Json
+abbrev pub start_json : Naming → Value → json.Json
 start_json names (value.Account n) = json.number (decimal n)
 start_json names (value.Counter n) = json.number (signed_decimal n)
 start_json names (value.Set s) = json.array (items_json names (members s))
@@ -48,16 +48,16 @@ start_json names (value.Queue q) = json.array (items_json names q)
 start_json names (value.Directory d) = json.array (pairs_json names (finite_map.entries d))
 start_json names (value.Max n) = json.number (decimal n)
 
-abbrev pub object_json : Names → ℕ → Value → json.Json
+abbrev pub object_json : Naming → ℕ → Value → json.Json
 object_json names n v = json.object (json.member (codes "name") (json.string (names.object n))
     (json.member (codes "kind") (json.string (kind_text (kind_of_value v)))
     (json.member (codes "start") (start_json names v) json.no_members)))
 
-abbrev pub objects_json : Names → ℕ → State → json.Items
+abbrev pub objects_json : Naming → ℕ → State → json.Items
 objects_json names n [] = json.no_items
 objects_json names n (v ∷ values) = json.item (object_json names n v) (objects_json names (n + 1) values)
 
-abbrev pub carried_json : ℕ → Names → State → json.Json
+abbrev pub carried_json : ℕ → Naming → State → json.Json
 carried_json version names values = json.object (json.member (codes "ordtx") (json.number (decimal version))
     (json.member (codes "objects") (json.array (objects_json names 0 values))
     (json.member (codes "transactions") (json.array json.no_items) json.no_members)))
@@ -116,7 +116,7 @@ objects_key rest = refl
 pub version_written : (version : ℕ) → version ≤ LAST_VERSION → IsNumber (decimal version)
 version_written version known = IsNumber-decimal version (omega arith)
 
-module _ (version : ℕ) (names : Names) where
+module _ (version : ℕ) (names : Naming) where
   items_written : (xs : List Item) → AllByRecursion (IsNamed version names) xs → AllWrite (map (item_text names) xs) (items_json names xs)
   items_written [] named = tt
   items_written (x ∷ xs) named = (text_written (names.item x) (name_plain version (names.item x) named.0), items_written xs named.1)
@@ -165,11 +165,11 @@ module _ (version : ℕ) (names : Names) where
   objects_written n [] ok = tt
   objects_written n (v ∷ values) ok = (object_written n v ok.0 ok.1, objects_written (n + 1) values ok.2)
 
-pub carried_lexed : (version : ℕ) → version ≤ LAST_VERSION → (names : Names) (values : State) → AreWritable version names 0 values
+pub carried_lexed : (version : ℕ) → version ≤ LAST_VERSION → (names : Naming) (values : State) → AreWritable version names 0 values
     → lex between (carried_text version names values) ≡ json_lexemes (carried_json version names values)
 unfolding lex content
 carried_lexed version known names values ok =
-    let texts = joined (codes ",\n") (object_texts names 0 values) in
+    let texts = joined_by (codes ",\n") (object_texts names 0 values) in
     let last = codes ",\n\"transactions\": [\n]}\n" in
     ap (lex between) (append_assoc (document_head version) texts (codes "\n]" ++ last))
     ∙ version_key version (texts ++ (codes "\n]" ++ last))

@@ -14,7 +14,7 @@ use Rattle.atoms.specs.declared.item.Item.{Item}
 use Rattle.objects.specs.Entries.{State}
 use Rattle.objects.specs.declared.value.Value.{Value}
 use Rattle.objects.specs.declared.value.Value.TheVariants as value
-use Rattle.meaning.specs.Words.{Names, members}
+use Rattle.meaning.specs.Words.{Naming, members}
 use Rattle.doc_rules.specs.declared.limits.TheConstants.{LAST_VERSION}
 use Rattle.carry.specs.Carried.{carried_text}
 use Rattle.carry_laws.specs.CarriedData.{carried_data, items_data, object_data, objects_data, pairs_data, start_data}
@@ -27,7 +27,7 @@ use Rattle.carry_laws.proofs.Listed.{AreWritable, IsWritable}
 pub version_number : (version : ℕ) → version ≤ LAST_VERSION → number_of (decimal version) ≡ Some (unsigned version)
 version_number version known = number_of-decimal version (omega arith)
 
-module _ (names : Names) where
+module _ (names : Naming) where
   -- ---- the value
 
   items_read : (xs : List Item) → of_items (items_json names xs) ≡ Some (items_data names xs)

@@ -17,7 +17,7 @@ use Rattle.objects.specs.declared.kind.Kind.{Kind}
 use Rattle.objects.specs.declared.kind.Kind.TheVariants as kind
 use Rattle.objects.specs.declared.value.Value.{Value}
 use Rattle.objects.specs.declared.value.Value.TheVariants as value
-use Rattle.meaning.specs.Words.{Names, members, joined}
+use Rattle.meaning.specs.Words.{Naming, members, joined_by}
 use Rattle.vocabulary.specs.Words.{kind_text}
 use Rattle.batch.specs.Names.{is_name, is_name_byte}
 use Rattle.meaning.specs.declared.limits.TheConstants.{MAX_START}
@@ -44,14 +44,14 @@ quoted_utf8 : (s : List ℕ) → IsUtf8 s → IsUtf8 (quoted s)
 quoted_utf8 s is = between_utf8 (codes "\"") s (codes "\"") (IsUtf8-are_ascii (codes "\"") refl) is (IsUtf8-are_ascii (codes "\"") refl)
 
 joined_utf8 : (separator : List ℕ) → IsUtf8 separator → (texts : List (List ℕ)) → AllByRecursion IsUtf8 texts
-    → IsUtf8 (joined separator texts)
+    → IsUtf8 (joined_by separator texts)
 joined_utf8 separator is [] all = IsUtf8-nil
 joined_utf8 separator is (text ∷ []) all = all.0
 joined_utf8 separator is (text ∷ next ∷ texts) all =
-    between_utf8 text separator (joined separator (next ∷ texts)) all.0 is (joined_utf8 separator is (next ∷ texts) all.1)
+    between_utf8 text separator (joined_by separator (next ∷ texts)) all.0 is (joined_utf8 separator is (next ∷ texts) all.1)
 
 list_utf8 : (texts : List (List ℕ)) → AllByRecursion IsUtf8 texts → IsUtf8 (list_text texts)
-list_utf8 texts all = between_utf8 (codes "[") (joined (codes ", ") texts) (codes "]") (IsUtf8-are_ascii (codes "[") refl)
+list_utf8 texts all = between_utf8 (codes "[") (joined_by (codes ", ") texts) (codes "]") (IsUtf8-are_ascii (codes "[") refl)
     (joined_utf8 (codes ", ") (IsUtf8-are_ascii (codes ", ") refl) texts all) (IsUtf8-are_ascii (codes "]") refl)
 
 kind_utf8 : (k : Kind) → IsUtf8 (kind_text k)
@@ -65,7 +65,7 @@ kind_utf8 kind.Max = IsUtf8-are_ascii (codes "max") refl
 number_utf8 : (n : ℕ) → n ≤ MAX_START → IsUtf8 (decimal n)
 number_utf8 n small = IsUtf8-from_ascii (decimal n) (IsAscii-decimal n (omega arith))
 
-module _ (version : ℕ) (names : Names) where
+module _ (version : ℕ) (names : Naming) where
   items_utf8 : (xs : List Item) → AllByRecursion (IsNamed version names) xs → AllByRecursion IsUtf8 (map (item_text names) xs)
   items_utf8 [] named = tt
   items_utf8 (x ∷ xs) named = (quoted_utf8 (names.item x) (name_utf8 version (names.item x) named.0), items_utf8 xs named.1)
@@ -114,8 +114,8 @@ module _ (version : ℕ) (known : version ≤ LAST_VERSION) where
       (IsUtf8-are_ascii (codes "{\"ordtx\": ") refl) (number_utf8 version (omega arith))
       (IsUtf8-are_ascii (codes ",\n\"objects\": [\n") refl)
 
-  pub carried_utf8 : (names : Names) (values : State) → AreWritable version names 0 values → IsUtf8 (carried_text version names values)
-  carried_utf8 names values ok = between_utf8 (document_head version) (joined (codes ",\n") (object_texts names 0 values))
+  pub carried_utf8 : (names : Naming) (values : State) → AreWritable version names 0 values → IsUtf8 (carried_text version names values)
+  carried_utf8 names values ok = between_utf8 (document_head version) (joined_by (codes ",\n") (object_texts names 0 values))
       (codes "\n],\n\"transactions\": [\n]}\n") head_utf8
       (joined_utf8 (codes ",\n") (IsUtf8-are_ascii (codes ",\n") refl) (object_texts names 0 values)
       (objects_utf8 version names 0 values ok))

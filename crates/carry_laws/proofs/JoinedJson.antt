@@ -8,7 +8,7 @@ use Rattle.json.specs.Text.{content}
 use Rattle.json.specs.Token.{Token}
 use Rattle.json.specs.Tree.{ItemsHaveNumbers}
 use Rattle.json.proofs.Printed.Numbers.{lex-number}
-use Rattle.meaning.specs.Words.{joined}
+use Rattle.meaning.specs.Words.{joined_by}
 use Rattle.batch.specs.Names.{is_name}
 use Rattle.doc_rules.specs.declared.limits.TheConstants.{LAST_VERSION}
 use Rattle.carry.specs.Carried.{document_head}
@@ -50,7 +50,7 @@ last_bracket = refl
 
 -- a list of texts, each on its line, and its bracket
 lines_lexed : (texts : List (List ℕ)) (js : json.Items) (rest : List ℕ) → AllWrite texts js
-    → lex between (joined (codes ",\n") texts ++ (codes "\n]" ++ rest)) ≡ items_lexemes false js ++ lex between rest
+    → lex between (joined_by (codes ",\n") texts ++ (codes "\n]" ++ rest)) ≡ items_lexemes false js ++ lex between rest
 unfolding lex
 lines_lexed texts js rest all = joined_lexed (codes ",\n") (codes "\n]") (λ r. refl) (λ r. refl) (λ r. refl) (λ r. refl) texts js rest all
 
@@ -61,8 +61,8 @@ pub text_lexed : (version : ℕ) → version ≤ LAST_VERSION → (starts : List
 text_lexed version known starts bytes ok numbers =
     let head = document_head version in
     let js = transactions_of (tree_of bytes) in
-    let objects = joined (codes ",\n") (map object_text_of starts) in
-    let transactions = joined (codes ",\n") (item_texts js) in
+    let objects = joined_by (codes ",\n") (map object_text_of starts) in
+    let transactions = joined_by (codes ",\n") (item_texts js) in
     let tail = transactions ++ (codes "\n]" ++ codes "}\n") in
     let last = codes ",\n\"transactions\": [\n" ++ tail in
     let middle = codes "\n],\n\"transactions\": [\n" in

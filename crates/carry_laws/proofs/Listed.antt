@@ -7,27 +7,27 @@ use Rattle.atoms.specs.declared.item.Item.{Item}
 use Rattle.objects.specs.Entries.{State}
 use Rattle.objects.specs.declared.value.Value.{Value}
 use Rattle.objects.specs.declared.value.Value.TheVariants as value
-use Rattle.meaning.specs.Words.{Names, members}
+use Rattle.meaning.specs.Words.{Naming, members}
 use Rattle.batch.specs.Names.{is_name}
 use Rattle.meaning.specs.declared.limits.TheConstants.{MAX_START}
 use Rattle.meaning.specs.WellFormed.{size_of}
 
 -- an item that has a name of a version
-abbrev pub IsNamed : ℕ → Names → Item → Type 0
+abbrev pub IsNamed : ℕ → Naming → Item → Type 0
 IsNamed version names x = is_name version (names.item x) ≡ true
 
-abbrev pub AreNamedBoth : ℕ → Names → Item × Item → Type 0
+abbrev pub AreNamedBoth : ℕ → Naming → Item × Item → Type 0
 AreNamedBoth version names pair = IsNamed version names pair.0 × IsNamed version names pair.1
 
 -- a value whose number is small enough, or whose items have names
-abbrev pub IsWritable : ℕ → Names → Value → Type 0
+abbrev pub IsWritable : ℕ → Naming → Value → Type 0
 IsWritable version names (value.Set s) = AllByRecursion (IsNamed version names) (members s)
 IsWritable version names (value.Queue q) = AllByRecursion (IsNamed version names) q
 IsWritable version names (value.Directory d) = AllByRecursion (AreNamedBoth version names) (finite_map.entries d)
 IsWritable version names v = size_of v ≤ MAX_START
 
 -- the objects from place n on
-abbrev pub AreWritable : ℕ → Names → ℕ → State → Type 0
+abbrev pub AreWritable : ℕ → Naming → ℕ → State → Type 0
 AreWritable version names n [] = ⊤
 AreWritable version names n (v ∷ values) =
     (is_name version (names.object n) ≡ true) × IsWritable version names v × AreWritable version names (n + 1) values

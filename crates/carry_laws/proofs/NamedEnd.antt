@@ -43,7 +43,7 @@ use Rattle.vocabulary.specs.declared.verb.AmountVerb.{AmountVerb}
 use Rattle.vocabulary.specs.declared.verb.ItemVerb.{ItemVerb}
 use Rattle.vocabulary.specs.declared.verb.PairVerb.{PairVerb}
 use Rattle.meaning.specs.Records.{Taken, TakenChild, TakenChildren, TakenHandler, TakenStep}
-use Rattle.meaning.specs.OneThread.{Run, Ran, labels_of, state_of, label_if, operate, operate_made, operate_filled, choose, is_for}
+use Rattle.meaning.specs.OneThread.{Execution, Ran, labels_of, state_of, label_if, operate, operate_made, operate_filled, choose, is_for}
 use Rattle.meaning.specs.OneThread.{choose_handler, act}
 use Rattle.meaning.specs.OneThread.{go_on, go_on_children, one, one_step}
 use Rattle.meaning.specs.OneThread.{one_handler, one_children}
@@ -184,7 +184,7 @@ module _ (texts : Texts) where
   -- ---- a run
 
   -- the objects that it leaves, and the labels that it adds
-  abbrev EndsNamed : {A : Type 0} → Run A → Type 0
+  abbrev EndsNamed : {A : Type 0} → Execution A → Type 0
   EndsNamed run = AllNamedValues texts (state_of run) × AreNamedLabels (labels_of run)
 
   operation_named : (object : ℕ) (call : Call) (labelled : Bool) (state : State) (reply : Option Reply) → reply_at state object call ≡ reply
@@ -210,30 +210,30 @@ module _ (texts : Texts) where
   filled_named object labelled refusal state (Some call) had named =
       made_named object call labelled refusal state (reply_at state object call) refl had (named call refl)
 
-  choice_named : (test : Bool) (then else : State → Run Taken) (state : State) → EndsNamed (then state) → EndsNamed (else state)
+  choice_named : (test : Bool) (then else : State → Execution Taken) (state : State) → EndsNamed (then state) → EndsNamed (else state)
       → EndsNamed (choose test then else state)
   choice_named true then else state first second = (first.0, tt)
   choice_named false then else state first second = (second.0, tt)
 
-  handler_choice_named : (test : Bool) (handler : State → Run Taken) (others : State → Run TakenHandler) (state : State)
+  handler_choice_named : (test : Bool) (handler : State → Execution Taken) (others : State → Execution TakenHandler) (state : State)
       → EndsNamed (handler state) → EndsNamed (others state) → EndsNamed (choose_handler test handler others state)
   handler_choice_named true handler others state first second = (first.0, tt)
   handler_choice_named false handler others state first second = second
 
-  act_named : (labelled : Bool) (body : Run Taken) (handlers : Option ℕ → State → Run TakenHandler) (state : State)
+  act_named : (labelled : Bool) (body : Execution Taken) (handlers : Option ℕ → State → Execution TakenHandler) (state : State)
       → EndsNamed body → ((reason : Option ℕ) → EndsNamed (handlers reason state)) → EndsNamed (act labelled body handlers state)
   act_named labelled (Ran body Ended labels after_body) handlers state first second =
       (first.0, label_named labelled (Outcome Ended) (λ x none. absurd cc))
   act_named labelled (Ran body (Aborted reason) labels after_body) handlers state first second =
       ((second reason).0, label_named labelled (Outcome (Aborted reason)) (λ x none. absurd cc))
 
-  go_on_named : (step : Run TakenStep) (rest : List Held → State → Run Taken) → EndsNamed step
+  go_on_named : (step : Execution TakenStep) (rest : List Held → State → Execution Taken) → EndsNamed step
       → ((labels : List Held) (mid : State) → AllNamedValues texts mid → AreNamedLabels labels → EndsNamed (rest labels mid))
       → EndsNamed (go_on step rest)
   go_on_named (Ran step Ended labels mid) rest first second = ((second labels mid first.0 first.1).0, tt)
   go_on_named (Ran step (Aborted reason) labels mid) rest first second = (first.0, tt)
 
-  go_on_children_named : (child : Run TakenChild) (younger : State → Run TakenChildren) → EndsNamed child
+  go_on_children_named : (child : Execution TakenChild) (younger : State → Execution TakenChildren) → EndsNamed child
       → ((mid : State) → AllNamedValues texts mid → EndsNamed (younger mid)) → EndsNamed (go_on_children child younger)
   go_on_children_named (Ran child Ended labels mid) younger first second =
       let others = second mid first.0 in (others.0, more_named labels _ first.1 others.1)
@@ -286,7 +286,7 @@ module _ (texts : Texts) where
 
   -- ---- a batch
 
-  settled_named : (before : State) (run : Run Taken) → AllNamedValues texts before → EndsNamed run
+  settled_named : (before : State) (run : Execution Taken) → AllNamedValues texts before → EndsNamed run
       → AllNamedValues texts (settled before run)
   settled_named before (Ran taken Ended labels state) had ends = ends.0
   settled_named before (Ran taken (Aborted reason) labels state) had ends = had

@@ -9,7 +9,7 @@ use Rattle.atoms.specs.declared.item.Item.{Item}
 use Rattle.objects.specs.Objects.{kind_of_value}
 use Rattle.objects.specs.declared.value.Value.{Value}
 use Rattle.objects.specs.declared.value.Value.TheVariants as value
-use Rattle.meaning.specs.Words.{Names, members}
+use Rattle.meaning.specs.Words.{Naming, members}
 use Rattle.batch.specs.Limits.{entries_in}
 use Rattle.batch.specs.Names.{Texts, names_of}
 use Rattle.doc_tree.specs.Scope.{Numbers, with_item}
@@ -37,7 +37,7 @@ pub record Spells {A B : Type 0} (name : (Item → List ℕ) → A → B) (befor
   pub shows : (texts : Texts) → Grows spelled.1.items texts.items → length texts.items ≤ 4294967295
       → map (name (names_of texts).item) spelled.0 ≡ shown
 
-module _ (names : Names) where
+module _ (names : Naming) where
   pub items_spelled : (xs : List Item) (numbers : Numbers)
       → Spells (λ name x. name x) numbers (entries_of numbers (items_data names xs)) (map names.item xs) (length xs)
   items_spelled [] numbers = record { grows = grows_none numbers.items; few = omega arith; shows = λ texts more few. refl }
@@ -84,7 +84,7 @@ over f g xs ys same b x at is = among_from_map g ys b (subst (Among b) same (sub
 
 -- ---- sets
 
-set_same : (old new : Names) (s : finite_set.FinSet item_cmp) (ys : List Item) → map new.item ys ≡ map old.item (members s)
+set_same : (old new : Naming) (s : finite_set.FinSet item_cmp) (ys : List Item) → map new.item ys ≡ map old.item (members s)
     → IsSame old (value.Set s) new (value.Set (put_all finite_set.empty ys))
 set_same old new s ys same name = (
   λ has. let found = over old.item new.item (members s) ys (sym same) name has.0 (contained_among s has.0 has.1) has.2 in
@@ -109,7 +109,7 @@ keys_shown name [] = refl
 keys_shown name (pair ∷ pairs) = ap (λ ts. name pair.0 ∷ ts) (keys_shown name pairs)
 
 -- pairs whose keys show as those of a directory have keys that differ
-keys_differ : (old new : Names) (pairs fs : List (Item × Item)) → map (both new.item) fs ≡ map (both old.item) pairs
+keys_differ : (old new : Naming) (pairs fs : List (Item × Item)) → map (both new.item) fs ≡ map (both old.item) pairs
     → Apart (map old.item (map (λ e. e.0) pairs)) → Apart (map (λ e. e.0) fs)
 keys_differ old new pairs fs same apart =
     let keys = sym (keys_shown new.item fs) ∙ ap (map (λ (p : List ℕ × List ℕ). p.0)) same ∙ keys_shown old.item pairs in
@@ -122,7 +122,7 @@ only_bound fs k x is = elim (had_or_bound fs finite_map.empty k x is) [
   | inr there ↦ let none = finite_map.get-empty {X = Item} item_cmp k in cc
 ]
 
-directory_same : (old new : Names) (d : finite_map.FinMap item_cmp Item) (fs : List (Item × Item))
+directory_same : (old new : Naming) (d : finite_map.FinMap item_cmp Item) (fs : List (Item × Item))
     → map (both new.item) fs ≡ map (both old.item) (finite_map.entries d) → Apart (map old.item (finite_map.keys d))
     → IsSame old (value.Directory d) new (value.Directory (bind_all finite_map.empty fs))
 directory_same old new d fs same apart key name = (
@@ -142,13 +142,13 @@ directory_same old new d fs same apart key name = (
 -- ---- values
 
 -- By later tables the value is the same. So many texts are new at most.
-pub record SpellsValue (names : Names) (v : Value) (before : Numbers) (spelled : Value × Numbers) : Type 0 where
+pub record SpellsValue (names : Naming) (v : Value) (before : Numbers) (spelled : Value × Numbers) : Type 0 where
   pub grows : Grows before.items spelled.1.items
   pub few : length spelled.1.items ≤ length before.items + 2 * entries_in v
   pub same : (texts : Texts) → Grows spelled.1.items texts.items → length texts.items ≤ 4294967295
       → IsSame names v (names_of texts) spelled.0
 
-pub value_spelled : (names : Names) (v : Value) (numbers : Numbers) → size_of v ≤ MAX_START → IsApart names v
+pub value_spelled : (names : Naming) (v : Value) (numbers : Numbers) → size_of v ≤ MAX_START → IsApart names v
     → SpellsValue names v numbers (start_of (kind_of_value v) numbers (start_data names v))
 unfolding start_of
 value_spelled names (value.Account n) numbers small apart = record {

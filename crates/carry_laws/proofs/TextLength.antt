@@ -12,7 +12,7 @@ use Rattle.objects.specs.declared.kind.Kind.{Kind}
 use Rattle.objects.specs.declared.kind.Kind.TheVariants as kind
 use Rattle.objects.specs.declared.value.Value.{Value}
 use Rattle.objects.specs.declared.value.Value.TheVariants as value
-use Rattle.meaning.specs.Words.{Names, members, joined}
+use Rattle.meaning.specs.Words.{Naming, members, joined_by}
 use Rattle.vocabulary.specs.Words.{kind_text}
 use Rattle.batch.specs.Limits.{all_entries_in, entries_in}
 use Rattle.batch.specs.Names.{is_name}
@@ -32,12 +32,12 @@ abbrev total : List (List ℕ) → ℕ
 total [] = 0
 total (text ∷ texts) = length text + 2 + total texts
 
-joined_length : (separator : List ℕ) (texts : List (List ℕ)) → length separator ≤ 2 → length (joined separator texts) ≤ total texts
+joined_length : (separator : List ℕ) (texts : List (List ℕ)) → length separator ≤ 2 → length (joined_by separator texts) ≤ total texts
 joined_length separator [] short = omega arith
 joined_length separator (text ∷ []) short = omega arith
 joined_length separator (text ∷ next ∷ texts) short =
     let rest = joined_length separator (next ∷ texts) short in
-    omega (arith, rest, length-append (text ++ separator) (joined separator (next ∷ texts)), length-append text separator)
+    omega (arith, rest, length-append (text ++ separator) (joined_by separator (next ∷ texts)), length-append text separator)
 
 total_most : (most : ℕ) (texts : List (List ℕ)) → AllByRecursion (λ text. length text ≤ most) texts
     → total texts ≤ (most + 2) * length texts
@@ -47,7 +47,7 @@ total_most most (text ∷ texts) all = let first = all.0 in omega (arith, total_
 list_length : (texts : List (List ℕ)) → length (list_text texts) ≤ total texts + 2
 list_length texts =
     let two : length (codes ", ") ≤ 2 = omega arith in
-    omega (arith, joined_length (codes ", ") texts two, length-append (codes "[" ++ joined (codes ", ") texts) (codes "]"))
+    omega (arith, joined_length (codes ", ") texts two, length-append (codes "[" ++ joined_by (codes ", ") texts) (codes "]"))
 
 name_length : (version : ℕ) (name : List ℕ) → is_name version name ≡ true → length name ≤ 128
 name_length version name e = omega (arith, name_bytes version name e, most_bytes version)
@@ -66,7 +66,7 @@ kind_length kind.Max = omega arith
 number_length : (n : ℕ) → n ≤ MAX_START → length (decimal n) ≤ 16
 number_length n small = length-decimal-le 16 n (omega arith) (omega arith) (omega arith)
 
-module _ (version : ℕ) (names : Names) where
+module _ (version : ℕ) (names : Naming) where
   items_length : (xs : List Item) → AllByRecursion (IsNamed version names) xs → total (map (item_text names) xs) ≤ 132 * length xs
   items_length [] named = omega arith
   items_length (x ∷ xs) named =
@@ -134,13 +134,13 @@ all_few version n entries (v ∷ values) few fit =
     omega (arith, all_few version (n + 1) (entries + entries_in v) values fits.few fits.rest)
 
 -- the text is not longer than a document of the version may be
-pub carried_length : (version : ℕ) → IsCarriedVersion version → (names : Names) (values : State)
+pub carried_length : (version : ℕ) → IsCarriedVersion version → (names : Naming) (values : State)
     → length values ≤ (limits_of version).objects → first_unfit version 0 0 values ≡ None → AreWritable version names 0 values
     → length (carried_text version names values) ≤ (limits_of version).bytes
 carried_length version carried names values few fit ok =
     let first = codes "{\"ordtx\": " in
     let digits = decimal version in
-    let objects = joined (codes ",\n") (object_texts names 0 values) in
+    let objects = joined_by (codes ",\n") (object_texts names 0 values) in
     let tail = codes "\n],\n\"transactions\": [\n]}\n" in
     let two : length (codes ",\n") ≤ 2 = omega arith in
     let last = carried.1 in

@@ -9,7 +9,7 @@ use Rattle.json.specs.Lex.{token, comma, string_token, lex, between, in_string}
 use Rattle.json.specs.Print.{IsNumber, escape}
 use Rattle.json.proofs.Printed.Strings.{content-escape, lex-escape}
 use Rattle.json.proofs.Printed.Numbers.{lex-number}
-use Rattle.meaning.specs.Words.{joined}
+use Rattle.meaning.specs.Words.{joined_by}
 use Rattle.carry.specs.Carried.{list_text, quoted}
 use Rattle.carry_laws.proofs.Lexemes.{json_lexemes, items_lexemes}
 
@@ -45,7 +45,7 @@ module _ (separator close : List ℕ)
     (closes : (rest : List ℕ) → lex between (close ++ rest) ≡ token Token.end_array ∷ lex between rest)
     (may_close : (rest : List ℕ) → ends_word (close ++ rest) ≡ true) where
   pub joined_lexed : (texts : List (List ℕ)) (js : json.Items) (rest : List ℕ) → AllWrite texts js
-      → lex between (joined separator texts ++ (close ++ rest)) ≡ items_lexemes false js ++ lex between rest
+      → lex between (joined_by separator texts ++ (close ++ rest)) ≡ items_lexemes false js ++ lex between rest
   joined_lexed [] json.no_items rest all = closes rest
   joined_lexed [] (json.item j js) rest all = absurd all
   joined_lexed (text ∷ texts) json.no_items rest all = absurd all
@@ -55,7 +55,7 @@ module _ (separator close : List ℕ)
   joined_lexed (text ∷ []) (json.item j (json.item k js)) rest all = absurd all.1
   joined_lexed (text ∷ next ∷ texts) (json.item j json.no_items) rest all = absurd all.1
   joined_lexed (text ∷ next ∷ texts) (json.item j (json.item k js)) rest all =
-      let more = joined separator (next ∷ texts) in
+      let more = joined_by separator (next ∷ texts) in
       ap (lex between) (append_assoc (text ++ separator) more (close ++ rest) ∙ append_assoc text separator (more ++ (close ++ rest)))
       ∙ all.0 (separator ++ (more ++ (close ++ rest))) (may_separate (more ++ (close ++ rest)))
       ∙ ap (λ ls. json_lexemes j ++ ls) (separates (more ++ (close ++ rest))
@@ -66,6 +66,6 @@ module _ (separator close : List ℕ)
 pub list_written : (texts : List (List ℕ)) (js : json.Items) → AllWrite texts js → Writes (list_text texts) (json.array js)
 unfolding lex
 list_written texts js all rest ended =
-    ap (λ t. lex between (91 ∷ t)) (append_assoc (joined (codes ", ") texts) (codes "]") rest)
+    ap (λ t. lex between (91 ∷ t)) (append_assoc (joined_by (codes ", ") texts) (codes "]") rest)
     ∙ ap (λ ls. token Token.begin_array ∷ ls)
     (joined_lexed (codes ", ") (codes "]") (λ r. refl) (λ r. refl) (λ r. refl) (λ r. refl) texts js rest all)

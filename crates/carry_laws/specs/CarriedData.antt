@@ -8,21 +8,21 @@ use Rattle.objects.specs.Entries.{State}
 use Rattle.objects.specs.Objects.{kind_of_value}
 use Rattle.objects.specs.declared.value.Value.{Value}
 use Rattle.objects.specs.declared.value.Value.TheVariants as value
-use Rattle.meaning.specs.Words.{Names, members}
+use Rattle.meaning.specs.Words.{Naming, members}
 use Rattle.vocabulary.specs.Words.{kind_text}
 
-abbrev pub items_data : Names → List Item → Items
+abbrev pub items_data : Naming → List Item → Items
 items_data names [] = no_items
 items_data names (x ∷ xs) = item (string (names.item x)) (items_data names xs)
 
-abbrev pub pair_data : Names → Item × Item → Data
+abbrev pub pair_data : Naming → Item × Item → Data
 pair_data names pair = array (item (string (names.item pair.0)) (item (string (names.item pair.1)) no_items))
 
-abbrev pub pairs_data : Names → List (Item × Item) → Items
+abbrev pub pairs_data : Naming → List (Item × Item) → Items
 pairs_data names [] = no_items
 pairs_data names (pair ∷ pairs) = item (pair_data names pair) (pairs_data names pairs)
 
-abbrev pub start_data : Names → Value → Data
+abbrev pub start_data : Naming → Value → Data
 start_data names (value.Account n) = number (unsigned n)
 start_data names (value.Counter n) = number (of_integer n)
 start_data names (value.Set s) = array (items_data names (members s))
@@ -30,14 +30,14 @@ start_data names (value.Queue q) = array (items_data names q)
 start_data names (value.Directory d) = array (pairs_data names (finite_map.entries d))
 start_data names (value.Max n) = number (unsigned n)
 
-abbrev pub object_data : Names → ℕ → Value → Data
+abbrev pub object_data : Naming → ℕ → Value → Data
 object_data names n v = object (member (codes "kind") (string (kind_text (kind_of_value v)))
     (member (codes "name") (string (names.object n)) (member (codes "start") (start_data names v) no_members)))
 
-abbrev pub objects_data : Names → ℕ → State → Items
+abbrev pub objects_data : Naming → ℕ → State → Items
 objects_data names n [] = no_items
 objects_data names n (v ∷ values) = item (object_data names n v) (objects_data names (n + 1) values)
 
-abbrev pub carried_data : ℕ → Names → State → Data
+abbrev pub carried_data : ℕ → Naming → State → Data
 carried_data version names values = object (member (codes "objects") (array (objects_data names 0 values))
     (member (codes "ordtx") (number (unsigned version)) (member (codes "transactions") (array no_items) no_members)))

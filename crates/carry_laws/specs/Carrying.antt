@@ -8,7 +8,7 @@ use Rattle.atoms.specs.declared.item.Item.{Item}
 use Rattle.objects.specs.Entries.{State}
 use Rattle.objects.specs.declared.value.Value.{Value}
 use Rattle.objects.specs.declared.value.Value.TheVariants as value
-use Rattle.meaning.specs.Words.{Names}
+use Rattle.meaning.specs.Words.{Naming}
 use Rattle.batch.specs.Names.{AreNames, is_name}
 use Rattle.carry.specs.Carried.{first_unfit}
 use Rattle.carry.specs.declared.document.TheConstants.{FIRST_CARRIED}
@@ -31,12 +31,12 @@ SomeHasItem [] x = ⊥
 SomeHasItem (v ∷ values) x = HasItem v x ⊎ SomeHasItem values x
 
 -- the names of the objects from place n on
-abbrev pub object_names : Names → ℕ → State → List (List ℕ)
+abbrev pub object_names : Naming → ℕ → State → List (List ℕ)
 object_names names n [] = []
 object_names names n (v ∷ values) = names.object n ∷ object_names names (n + 1) values
 
 -- Objects that may start a document of a version: few, none of them unfit, and what they name has a name of its own.
-pub record CanBeCarried (version : ℕ) (names : Names) (values : State) : Type 0 where
+pub record CanBeCarried (version : ℕ) (names : Naming) (values : State) : Type 0 where
   pub few : length values ≤ (limits_of version).objects
   pub fit : first_unfit version 0 0 values ≡ None
   pub objects_named : AreNames version (object_names names 0 values)

@@ -2,7 +2,7 @@
 use Rattle.std.specs.Prelude.{ℕ, List, [], ◌∷◌, codes}
 use Rattle.serde_json.specs.Data.{Data, array, member, no_items, item, Items, no_members, number, object, unsigned}
 use Rattle.objects.specs.Entries.{State}
-use Rattle.meaning.specs.Words.{Names}
+use Rattle.meaning.specs.Words.{Naming}
 use Rattle.batch.specs.Names.{names_of}
 use Rattle.doc_tree.specs.Scope.{Numbers, no_numbers}
 use Rattle.doc_tree.specs.Spelled.{starts_of}
@@ -17,7 +17,7 @@ starts_data (start ∷ starts) = item (object_data start.names start.place start
 abbrev pub spelled_starts : ℕ → List StartOf → State × Numbers
 spelled_starts version starts = starts_of version no_numbers (starts_data starts)
 
-abbrev pub names_after : Numbers → Names
+abbrev pub names_after : Numbers → Naming
 names_after numbers = names_of (record { objects = []; items = numbers.items; reasons = numbers.reasons })
 
 -- a version, these starts and these transactions

@@ -1,7 +1,7 @@
 -- The laws of carrying over, as statements.
 use Rattle.std.specs.Prelude.{◌≡◌, ◌<◌, ◌≤◌, ℕ, List, [], ◌++◌, length, map, None, Ok, Some}
 use Rattle.objects.specs.Entries.{State}
-use Rattle.meaning.specs.Words.{Names}
+use Rattle.meaning.specs.Words.{Naming}
 use Rattle.meaning.specs.Batch.{final_state}
 use Rattle.lang.specs.Reading.{Document, reading, value_of}
 use Rattle.serde_json.specs.Data.{Data}
@@ -23,7 +23,7 @@ use Rattle.carry_laws.specs.Same.{AreSame, AreSameStarts}
 use Rattle.doc_rules.specs.Limits.{limits_of}
 
 -- The document is of this version, starts with the same objects under the same names, and has no transaction.
-pub record StartsWith (version : ℕ) (names : Names) (values : State) (document : Document) : Type 0 where
+pub record StartsWith (version : ℕ) (names : Naming) (values : State) (document : Document) : Type 0 where
   pub is_of : document.version ≡ version
   pub objects : AreSame names values (names_of document.texts) document.start
   pub named : document.texts.objects ≡ object_names names 0 values
@@ -31,7 +31,7 @@ pub record StartsWith (version : ℕ) (names : Names) (values : State) (document
 
 -- What is printed of objects that can be carried is read as a document of this version that starts with them.
 abbrev pub CarriedLaw : Type 0
-CarriedLaw = (version : ℕ) (names : Names) (values : State) → IsCarriedVersion version → CanBeCarried version names values
+CarriedLaw = (version : ℕ) (names : Naming) (values : State) → IsCarriedVersion version → CanBeCarried version names values
     → (document : Document) × (reading (carried_text version names values) ≡ Ok document) × StartsWith version names values document
 
 abbrev pub AreDistinctNames : ℕ → List (List ℕ) → Type 0

@@ -7,19 +7,19 @@ use Rattle.atoms.specs.declared.item.Item.{Item}
 use Rattle.objects.specs.Entries.{State}
 use Rattle.objects.specs.declared.value.Value.{Value}
 use Rattle.objects.specs.declared.value.Value.TheVariants as value
-use Rattle.meaning.specs.Words.{Names}
+use Rattle.meaning.specs.Words.{Naming}
 use Rattle.carry.specs.Joined.{StartOf}
 
 -- a member of the set has this name
-abbrev pub HasMember : Names → finite_set.FinSet item_cmp → List ℕ → Type 0
+abbrev pub HasMember : Naming → finite_set.FinSet item_cmp → List ℕ → Type 0
 HasMember names s name = (x : Item) × (finite_set.contains s x ≡ true) × (names.item x ≡ name)
 
 -- a key of the first name is bound to an item of the second
-abbrev pub Binds : Names → finite_map.FinMap item_cmp Item → List ℕ → List ℕ → Type 0
+abbrev pub Binds : Naming → finite_map.FinMap item_cmp Item → List ℕ → List ℕ → Type 0
 Binds names d key name = (k : Item) × (x : Item) × (finite_map.get d k ≡ Some x) × (names.item k ≡ key) × (names.item x ≡ name)
 
 -- of one kind, with the same number, or with items of the same names
-abbrev pub IsSame : Names → Value → Names → Value → Type 0
+abbrev pub IsSame : Naming → Value → Naming → Value → Type 0
 IsSame old (value.Account n) new (value.Account m) = n ≡ m
 IsSame old (value.Counter n) new (value.Counter m) = n ≡ m
 IsSame old (value.Set s) new (value.Set t) = (name : List ℕ) → HasMember old s name ↔ HasMember new t name
@@ -29,13 +29,13 @@ IsSame old (value.Max n) new (value.Max m) = n ≡ m
 IsSame old v new w = ⊥
 
 -- as many objects, each the same as that in its place
-abbrev pub AreSame : Names → State → Names → State → Type 0
+abbrev pub AreSame : Naming → State → Naming → State → Type 0
 AreSame old [] new [] = ⊤
 AreSame old (v ∷ values) new (w ∷ others) = IsSame old v new w × AreSame old values new others
 AreSame old values new others = ⊥
 
 -- as many as starts, each the same as that in its place, under its own names
-abbrev pub AreSameStarts : List StartOf → Names → State → Type 0
+abbrev pub AreSameStarts : List StartOf → Naming → State → Type 0
 AreSameStarts [] new [] = ⊤
 AreSameStarts (start ∷ starts) new (w ∷ others) = IsSame start.names start.value new w × AreSameStarts starts new others
 AreSameStarts starts new others = ⊥

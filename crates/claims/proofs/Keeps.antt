@@ -7,7 +7,7 @@ use lib.ListN.{get_elem?}
 use Rattle.atomic_table.proofs.Lists.{at_set, at_snoc}
 use Rattle.claims.specs.declared.view.SeatView.{SeatView}
 use Rattle.claims.specs.declared.view.Size.{Size}
-use Rattle.claims.specs.Views.{fresh, spent, one_share_less, joined, bit, times, once_below, least}
+use Rattle.claims.specs.Views.{fresh, spent, one_share_less, joined_views, bit, times, once_below, least}
 use Rattle.claims.specs.Steps.{with_piece, told_done, told_stopped, having_raised, lowered, told_bound}
 use Rattle.claims.proofs.Counted.{Fits, Counted, bit_small, bit_or_max}
 use Rattle.claims.proofs.Folds.{total, most, total_set, total_push, total_ge, total_le, total_join, most_set, most_push, most_ge, most_le}
@@ -263,10 +263,10 @@ module _ (size : Size) (words : List ℕ) (views : List SeatView) (k : Counted s
       }
 
   -- a join
-  pub joins_seat : (other : ℕ) (w : SeatView) → other ≢ id → get_elem? (set views id (joined v w)) other ≡ some w
-      → Counted size words (set (set views id (joined v w)) other spent)
+  pub joins_seat : (other : ℕ) (w : SeatView) → other ≢ id → get_elem? (set views id (joined_views v w)) other ≡ some w
+      → Counted size words (set (set views id (joined_views v w)) other spent)
   joins_seat other w apart there =
-      let both : SeatView = joined v w in
+      let both : SeatView = joined_views v w in
       let was : get_elem? views other ≡ some w = ⊎_elim (λ (t : (other ≡ id) × (both ≡ w)). absurd (apart t.0))
       (λ (t : (other ≢ id) × (get_elem? views other ≡ some w)). t.1) (at_set views id other both w there) in
       let theirs : Now w = k.each other w was in

@@ -7,7 +7,7 @@ use native.Mathlib.Decide.{dec_lt, ℕ_discrete}
 use Rattle.atomic_table.specs.Table.{keeps, Allows, Splits, Joins, step}
 use Rattle.claims.specs.declared.view.SeatView.{SeatView}
 use Rattle.claims.specs.declared.view.Size.{Size}
-use Rattle.claims.specs.Views.{fresh, spent, one_share_less, joined}
+use Rattle.claims.specs.Views.{fresh, spent, one_share_less, joined_views}
 use Rattle.claims.specs.Rule.{Holds}
 use Rattle.claims.specs.Steps.{Draws, Looks, Raises, Lowers, Bounds, with_piece, told_done, told_stopped, having_raised, lowered}
 use Rattle.claims.specs.Steps.{told_bound}
@@ -126,6 +126,6 @@ splits size id v many new s k at = kept size _ _ (splits_share size s.words s.vi
     (omega arith) many new)
 
 -- a join is allowed
-pub joins : (size : Size) (id other : ℕ) (v w : SeatView) → 0 < v.shares → Joins (Holds size) id v other w (joined v w) spent
+pub joins : (size : Size) (id other : ℕ) (v w : SeatView) → 0 < v.shares → Joins (Holds size) id v other w (joined_views v w) spent
 joins size id other v w share s k at apart there =
     kept size _ _ (joins_seat size s.words s.views (counted size s.words s.views k) id v at share other w apart there)

@@ -33,8 +33,8 @@ abbrev pub one_share_less : SeatView → SeatView
 one_share_less v = record v { shares = v.shares - 1 }
 
 -- one view of two
-abbrev pub joined : SeatView → SeatView → SeatView
-joined v w = record {
+abbrev pub joined_views : SeatView → SeatView → SeatView
+joined_views v w = record {
   shares = v.shares + w.shares;
   pieces = v.pieces;
   drawn = v.drawn ++ w.drawn;

@@ -13,7 +13,7 @@ ghost use Rattle.claims.specs.declared.view.SeatView.{SeatView};
 
 use crate::claim::{Claim, Tally};
 use crate::rule::{BoardRule, Bound, Draw, Look, Lower, Raise};
-use crate::seat::{Seat, Token};
+use crate::seat::{BoardSeat, Seat};
 use crate::view::{Both, OneShare, SeatView, Size};
 use atomic_table::{Shared, Table};
 use serial::NoMemory;
@@ -60,7 +60,7 @@ impl Model for Board {
 }
 
 // Cuts off one share after another, and makes a seat of each.
-fn deal(words: &Words, mut first: Token, seats: u32, all: &mut Vec<Seat>)
+fn deal(words: &Words, mut first: BoardSeat, seats: u32, all: &mut Vec<Seat>)
     requires first { (first.table_id ≡ words.now.table_id)
         × (first.me ≡ (fresh seats words.now.key.pieces, [])) }
     requires words { words.now.table_id.words ≡ 3 }
@@ -83,7 +83,7 @@ fn deal(words: &Words, mut first: Token, seats: u32, all: &mut Vec<Seat>)
 }
 
 // Joins the tokens of all the seats into one.
-fn join_all(words: &Words, mut seats: Vec<Seat>) -> Token
+fn join_all(words: &Words, mut seats: Vec<Seat>) -> BoardSeat
     requires own { All (λ s. s.board ≡ words.now.table_id) seats.items }
     requires words { words.now.table_id.words ≡ 3 }
     requires some { 0 < length seats.items }
@@ -103,7 +103,7 @@ fn join_all(words: &Words, mut seats: Vec<Seat>) -> Token
 }
 
 // The words of a table that no thread shares any more.
-fn close(table: Table<(), SeatView, Size, BoardRule, Global>, whole: Token) -> [u64; 3]
+fn close(table: Table<(), SeatView, Size, BoardRule, Global>, whole: BoardSeat) -> [u64; 3]
     requires own { whole.table_id ≡ table.shared.table_id }
     requires counts { (table.shared.table_id.words ≡ 3) × (table.shared.table_id.slots ≡ 0) }
     ensures { (views : List SeatView) × Kept table.shared.key result views

@@ -5,13 +5,13 @@ ghost use Rattle.claims.specs.Views.{is_over};
 use crate::view::SeatView;
 use std::marker::Model;
 
-pub(crate) type Token = atomic_table::Seat<(), SeatView>;
+pub(crate) type BoardSeat = atomic_table::Seat<(), SeatView>;
 
 /// A seat at a board, with which one thread at a time claims. A seat can't be copied, so the seats
 /// that [`Board::open`](crate::Board::open) returned are all the seats of a board.
 #[derive(Drop)]
 pub struct Seat {
-    pub(crate) token: Token,
+    pub(crate) token: BoardSeat,
     pub(crate) over: bool,
 }
 
@@ -37,7 +37,7 @@ impl Seat {
         self.over
     }
 
-    pub(crate) fn into_token(self) -> Token
+    pub(crate) fn into_token(self) -> BoardSeat
         ensures board { (result.table_id ≡ self.board) × (result.me ≡ (self.view, [])) }
         ensures share { self.view.shares ≡ 1 }
     {

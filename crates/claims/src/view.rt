@@ -1,4 +1,4 @@
-//! Views: what a seat knows, how large a board is, and how views are cut and joined.
+//! Views: what a seat knows, how large a board is, and how views are cut and joined_views.
 
 use atomic_table::{Join, Split};
 use std::collections::LinkedList;
@@ -45,9 +45,9 @@ impl Split<SeatView> for OneShare {
 pub(crate) struct Both;
 
 impl Join<SeatView> for Both {
-    ghost use Rattle.claims.specs.Views.{spent, joined};
+    ghost use Rattle.claims.specs.Views.{spent, joined_views};
 
-    ghost both = { joined };
+    ghost both = { joined_views };
 
     ghost spent = { spent };
 }

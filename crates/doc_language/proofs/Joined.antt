@@ -6,7 +6,7 @@ use Rattle.doc_rules.specs.declared.failure.Failure.{Failure}
 use Rattle.doc_rules.specs.declared.rule.Rule.{Rule}
 use Rattle.doc_tree.specs.declared.counts.Counts.{Counts}
 use Rattle.doc_tree.specs.Demand.{Demand, check_one}
-use Rattle.doc_tree.specs.Places.{Found, Token, below, found_here, found_inside, go_on, here, item_at}
+use Rattle.doc_tree.specs.Places.{Found, PathStep, below, found_here, found_inside, go_on, here, item_at}
 use Rattle.doc_tree.specs.Scope.{Numbers}
 use Rattle.doc_language.specs.Reading.{Reading, Seen, after, asks, counted, each, breaks, inside, needs, then_read}
 
@@ -81,7 +81,7 @@ module _ {A : Type 0} {right : Result (A × Seen) Found} where
       ap (λ p. then_read p (λ read. rest read.0 read.1)) gives ∙ check_after r x n rest failed met
 
   -- by what a part in its place gives
-  inside_after : {B : Type 0} (token : Token) (r : Result Counts Found) (x : B) (n : Numbers) (rest : B → Reading A)
+  inside_after : {B : Type 0} (token : PathStep) (r : Result Counts Found) (x : B) (n : Numbers) (rest : B → Reading A)
       → ((found : Found) → r ≡ Err found → Err (found_inside token found) ≡ right)
       → ((c : Counts) → r ≡ Ok c → rest x (seen_of c n) ≡ right)
       → then_read (result_map_both (λ read. read) (found_inside token) (answer r x n)) (λ read. rest read.0 read.1) ≡ right
@@ -89,7 +89,7 @@ module _ {A : Type 0} {right : Result (A × Seen) Found} where
   inside_after token (Err found) x n rest failed met = failed found refl
 
   -- a part in its place that gives this answer
-  pub inside_is : {B : Type 0} (token : Token) (part : Reading B) (rest : B → Reading A) {seen : Seen} (r : Result Counts Found) {x : B}
+  pub inside_is : {B : Type 0} (token : PathStep) (part : Reading B) (rest : B → Reading A) {seen : Seen} (r : Result Counts Found) {x : B}
       {n : Numbers} → part seen ≡ answer r x n → ((found : Found) → r ≡ Err found → Err (found_inside token found) ≡ right)
       → ((c : Counts) → r ≡ Ok c → rest x (seen_of c n) ≡ right) → inside token part rest seen ≡ right
   inside_is token part rest r {x} {n} gives failed met =

@@ -10,7 +10,7 @@ use Rattle.doc_rules.specs.declared.rule.Rule.{Rule}
 use Rattle.doc_rules.specs.declared.rule.Rule.TheVariants.{Name}
 use Rattle.doc_tree.specs.declared.counts.Counts.{Counts}
 use Rattle.doc_tree.specs.Demand.{Demand, broken_at, check_one, no_counts}
-use Rattle.doc_tree.specs.Places.{Found, Token, found_here, found_inside, here, item_at}
+use Rattle.doc_tree.specs.Places.{Found, PathStep, found_here, found_inside, here, item_at}
 use Rattle.doc_tree.specs.Scope.{Numbers, no_numbers, number_of, with_item, with_reason}
 
 -- what was counted, and the texts that are numbered
@@ -58,7 +58,7 @@ abbrev pub after : {A B : Type 0} → Reading B → (B → Reading A) → Readin
 after part rest seen = then_read (part seen) (λ read. rest read.0 read.1)
 
 -- a part at this place, and then the rest
-abbrev pub inside : {A B : Type 0} → Token → Reading B → (B → Reading A) → Reading A
+abbrev pub inside : {A B : Type 0} → PathStep → Reading B → (B → Reading A) → Reading A
 inside token part rest = after (λ seen. result_map_both (λ read. read) (found_inside token) (part seen)) rest
 
 -- a part that may be absent

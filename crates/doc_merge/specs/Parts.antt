@@ -4,7 +4,7 @@ use Rattle.batch.specs.Views.{block_view}
 use Rattle.meaning.specs.Trees.{Block}
 use Rattle.doc_tokens.specs.Ranges.{reached}
 use Rattle.doc_tree.specs.Scope.{Setting}
-use Rattle.doc_tree.specs.declared.state.State.{State}
+use Rattle.doc_tree.specs.declared.state.ReaderState.{ReaderState}
 use Rattle.doc_merge.specs.RangeReads.{IsMerged}
 use Rattle.doc_merge.specs.Renumbered.{new_number, renumbered}
 use Rattle.doc_merge.specs.declared.parts.Part.{Part}
@@ -26,6 +26,6 @@ blocks_in [] = []
 blocks_in (part ∷ parts) = map block_view part.blocks.items ++ blocks_in parts
 
 -- After so many transactions and what was seen of the document up to there, the range has the blocks of this part.
-abbrev pub IsPlaced : Setting → RangeRead → ℕ → State → Part → State → Type 0
+abbrev pub IsPlaced : Setting → RangeRead → ℕ → ReaderState → Part → ReaderState → Type 0
 IsPlaced setting read before old part new = (blocks : List Block) → length blocks ≡ before
     → IsMerged setting read (reached old blocks) (reached new (blocks ++ renumbered_part part))

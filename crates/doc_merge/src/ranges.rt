@@ -18,7 +18,7 @@ use doc_tokens::stop::Stop;
 use doc_tree::counts::Counts;
 use doc_tree::declared::Declared;
 use doc_tree::hashing::NameHashing;
-use doc_tree::state::{Numbering, State};
+use doc_tree::state::{Numbering, ReaderState};
 use json::{Reader, Scratch};
 use std::alloc::Global;
 use std::thread::Threads;
@@ -55,7 +55,7 @@ pub fn read_range(
     let range = text.get(begin..end).ok_or(Stop::OtherForm)?;
     let mut scratch = Scratch::new(alloc);
     let mut reader = Reader::new(range, &mut scratch)?;
-    let mut state = State::new(alloc, hashing);
+    let mut state = ReaderState::new(alloc, hashing);
     let mut transactions = Vec::new(alloc);
     let last = pull_range(alloc, &mut reader, declared, &mut transactions, &mut state)?;
     Ok(RangeRead {
@@ -97,7 +97,7 @@ fn place_range(
     read: RangeRead,
     before: usize,
     declared: &Declared,
-    state: &mut State,
+    state: &mut ReaderState,
 ) -> Result<Part, Stop>
     requires { before ≤ (limits_of declared.now.version).transactions }
     ensures read { IfOk result (λ part. IsPlaced (setting_of declared.now) read before state.old
@@ -135,7 +135,7 @@ fn place_ranges(
     alloc: Global,
     reads: Vec<RangeRead>,
     declared: &Declared,
-    state: &mut State,
+    state: &mut ReaderState,
 ) -> Result<Vec<Part>, Stop>
     ensures read { IfOk result (λ parts. AreMerged (setting_of declared.now) reads.items
         (reached state.old []) (reached state.new (renumbered_parts parts.items))) }
@@ -162,7 +162,7 @@ pub fn merge_ranges<T: Threads + Sync>(
     alloc: Global,
     reads: Vec<RangeRead>,
     declared: &Declared,
-    state: &mut State,
+    state: &mut ReaderState,
 ) -> Result<Vec<Block>, Stop>
     requires { scope_of state.old.labels.entries ≡ [] }
     ensures read { IfOk result (λ blocks. AreMerged (setting_of declared.now) reads.items

@@ -4,7 +4,7 @@ ghost use Rattle.batch.specs.Names.{texts_of};
 ghost use Rattle.doc_merge.specs.Renumbered.{merged, new_number, numbers_in};
 ghost use Rattle.doc_merge.specs.declared.tables.TheConstants.{MOST_TEXTS};
 
-use doc_tree::hashing::Texts;
+use doc_tree::hashing::TextSet;
 use doc_tree::state::fit;
 use serial::NoMemory;
 use std::alloc::Global;
@@ -13,7 +13,7 @@ use std::alloc::Global;
 pub(crate) const MOST_TEXTS: usize = 4_294_967_295;
 
 /// Puts these texts into a table, each once, after its own. Returns the number of each.
-fn put_texts(alloc: Global, table: &mut Texts, texts: Texts) -> Result<Vec<u32>, NoMemory>
+fn put_texts(alloc: Global, table: &mut TextSet, texts: TextSet) -> Result<Vec<u32>, NoMemory>
     ensures numbers { IfOk result (λ numbers. numbers.items
         ≡ numbers_in (texts_of table.new.keys) (texts_of texts.keys)) }
     ensures table { OnOk result (texts_of table.new.keys
@@ -45,7 +45,7 @@ fn are_places(numbers: &[u32]) -> bool
 /// have another one there, or none where all keep theirs.
 ///
 /// Returns `NoMemory` where a request for memory was refused.
-pub fn merge_texts(alloc: Global, table: &mut Texts, texts: Texts) -> Result<Vec<u32>, NoMemory>
+pub fn merge_texts(alloc: Global, table: &mut TextSet, texts: TextSet) -> Result<Vec<u32>, NoMemory>
     ensures numbers { IfOk result (λ numbers. (n : ℕ) → new_number numbers.items n
         ≡ new_number (numbers_in (texts_of table.new.keys) (texts_of texts.keys)) n) }
     ensures table { OnOk result (texts_of table.new.keys

@@ -14,7 +14,7 @@ use Rattle.doc_tree.specs.Spelled.{blocks_of, starts_of}
 use Rattle.doc_tree.specs.declared.counts.Counts.{Counts}
 use Rattle.doc_tree.specs.declared.declared.Declared.{Declared}
 use Rattle.doc_rules.specs.declared.limits.TheConstants.{LAST_VERSION}
-use Rattle.doc_tree.specs.declared.state.State.{State}
+use Rattle.doc_tree.specs.declared.state.ReaderState.{ReaderState}
 use Rattle.doc_cuts.specs.Whole.{is_whole}
 use Rattle.doc_tokens.specs.Pulled.{ReadsItems, ReadsValue, in_order}
 use Rattle.doc_tokens.specs.declared.ranges.RangeEnd.{RangeEnd}
@@ -31,7 +31,7 @@ pub record Reached : Type 0 where
   pub numbers : Numbers
   pub blocks : List Block
 
-abbrev pub reached : State → List Block → Reached
+abbrev pub reached : ReaderState → List Block → Reached
 reached state blocks = record { counts = state.counts; numbers = numbers_of state.numbering; blocks = blocks }
 
 -- the blocks of other transactions, and their numbers, after these

@@ -40,7 +40,7 @@ use doc_tree::hashing::Labels;
 use doc_tree::labels::{add_new_label, found_label};
 use doc_tree::numbers::number_of;
 use doc_tree::operations::{operation_step, target_of};
-use doc_tree::state::{Numbering, State};
+use doc_tree::state::{Numbering, ReaderState};
 use doc_tree::steps::read_reason;
 use fast_float::Numeral;
 use json::{Reader, Token};
@@ -429,7 +429,7 @@ fn refusal_of(
     alloc: Global,
     abort: Option<Option<&str>>,
     version: u8,
-    state: &mut State,
+    state: &mut ReaderState,
 ) -> Result<Refusal, Stop>
     ensures { IfOk result (λ refusal.
         let told = option_map (λ reason. option_map (λ text. text.now) reason) abort.entry in
@@ -453,7 +453,7 @@ pub(crate) fn pull_operation(
     alloc: Global,
     reader: &mut Reader<'_>,
     declared: &Declared,
-    state: &mut State,
+    state: &mut ReaderState,
 ) -> Result<Step, Stop>
     ensures { IfOk result (λ step. (d : Data) × ReadsValue 3 (token.begin_object
         ∷ token.key (codes "op") ∷ reader.old) d reader.new × ((places : Places)

@@ -35,7 +35,7 @@ use doc_tree::declared::Declared;
 use doc_tree::hashing::Labels;
 use doc_tree::heads::{if_step, no_labels, subaction_of};
 use doc_tree::labels::{add_new_label, leave_block};
-use doc_tree::state::{Numbering, ReasonOrder, State};
+use doc_tree::state::{Numbering, ReaderState, ReasonOrder};
 use doc_tree::steps::{Sort, read_members, read_reason, read_step, reason_number};
 use json::{Reader, Token};
 use meaning::Test;
@@ -64,7 +64,7 @@ fn pull_handler(
     reader: &mut Reader<'_>,
     levels: usize,
     declared: &Declared,
-    state: &mut State,
+    state: &mut ReaderState,
 ) -> Result<Handler, Stop>
     requires few { levels ≤ MAX_DEPTH }
     ensures { IfOk result (λ handler. (d : Data) × ReadsValue (5 * levels) reader.old d reader.new
@@ -99,7 +99,7 @@ fn pull_ascending(
     reader: &mut Reader<'_>,
     levels: usize,
     declared: &Declared,
-    state: &mut State,
+    state: &mut ReaderState,
 ) -> Result<Vec<Handler>, Stop>
     requires few { levels ≤ MAX_DEPTH }
     ensures { IfOk result (λ handlers. (hs : Members)
@@ -130,7 +130,7 @@ fn pull_sorted(
     reader: &mut Reader<'_>,
     levels: usize,
     declared: &Declared,
-    state: &mut State,
+    state: &mut ReaderState,
 ) -> Result<Vec<Handler>, Stop>
     requires few { levels ≤ MAX_DEPTH }
     ensures { IfOk result (λ handlers. (hs : Members)
@@ -154,7 +154,7 @@ fn pull_handlers(
     reader: &mut Reader<'_>,
     levels: usize,
     declared: &Declared,
-    state: &mut State,
+    state: &mut ReaderState,
 ) -> Result<Vec<Handler>, Stop>
     requires few { levels ≤ MAX_DEPTH }
     ensures { IfOk result (λ handlers. (hs : Members)
@@ -191,7 +191,7 @@ fn pull_sub_rest<'a>(
     reader: &mut Reader<'a>,
     levels: usize,
     declared: &Declared,
-    state: &mut State,
+    state: &mut ReaderState,
 ) -> Result<SubRest<'a>, Stop>
     requires few { levels ≤ MAX_DEPTH }
     ensures { IfOk result (λ rest. (now : List token.Token)
@@ -231,7 +231,7 @@ fn pull_sub<'a>(
     reader: &mut Reader<'a>,
     levels: usize,
     declared: &Declared,
-    state: &mut State,
+    state: &mut ReaderState,
 ) -> Result<(Subaction, Option<&'a str>), Stop>
     requires few { levels ≤ MAX_DEPTH }
     ensures { IfOk result (λ read. (d : Data) × ReadsValue (5 * levels + 2) (token.begin_object
@@ -261,7 +261,7 @@ fn pull_sub_step(
     reader: &mut Reader<'_>,
     levels: usize,
     declared: &Declared,
-    state: &mut State,
+    state: &mut ReaderState,
 ) -> Result<Step, Stop>
     requires few { levels ≤ MAX_DEPTH }
     ensures { IfOk result (λ step. (d : Data) × ReadsValue (5 * levels + 2) (token.begin_object
@@ -297,7 +297,7 @@ fn pull_children(
     levels: usize,
     declared: &Declared,
     earlier: &mut Labels,
-    state: &mut State,
+    state: &mut ReaderState,
 ) -> Result<Vec<Subaction>, Stop>
     requires few { levels ≤ MAX_DEPTH }
     ensures { IfOk result (λ children. (ds : Items)
@@ -338,7 +338,7 @@ fn pull_parallel(
     reader: &mut Reader<'_>,
     levels: usize,
     declared: &Declared,
-    state: &mut State,
+    state: &mut ReaderState,
 ) -> Result<Step, Stop>
     requires few { levels ≤ MAX_DEPTH }
     ensures { IfOk result (λ step. (d : Data) × ReadsValue (5 * levels + 4) (token.begin_object
@@ -413,7 +413,7 @@ fn pull_else(
     reader: &mut Reader<'_>,
     levels: usize,
     declared: &Declared,
-    state: &mut State,
+    state: &mut ReaderState,
 ) -> Result<Block, Stop>
     requires few { levels ≤ MAX_DEPTH }
     ensures { IfOk result (λ block. (second : Option Data) × ((found : Members)
@@ -445,7 +445,7 @@ fn pull_if(
     reader: &mut Reader<'_>,
     levels: usize,
     declared: &Declared,
-    state: &mut State,
+    state: &mut ReaderState,
 ) -> Result<Step, Stop>
     requires few { levels ≤ MAX_DEPTH }
     ensures { IfOk result (λ step. (d : Data) × ReadsValue (5 * levels + 1) (token.begin_object
@@ -493,7 +493,7 @@ fn pull_abort(
     alloc: Global,
     reader: &mut Reader<'_>,
     declared: &Declared,
-    state: &mut State,
+    state: &mut ReaderState,
 ) -> Result<Step, Stop>
     ensures { IfOk result (λ step. (d : Data) × ReadsValue 1 (token.begin_object
         ∷ token.key (codes "abort") ∷ reader.old) d reader.new × ((places : Places)
@@ -528,7 +528,7 @@ fn pull_other_step(
     reader: &mut Reader<'_>,
     levels: usize,
     declared: &Declared,
-    state: &mut State,
+    state: &mut ReaderState,
 ) -> Result<Step, Stop>
     requires few { levels ≤ MAX_DEPTH }
     ensures { IfOk result (λ step. (d : Data) × ReadsValue (5 * levels + 4) (token.begin_object
@@ -555,7 +555,7 @@ fn pull_step(
     reader: &mut Reader<'_>,
     levels: usize,
     declared: &Declared,
-    state: &mut State,
+    state: &mut ReaderState,
 ) -> Result<Step, Stop>
     requires few { levels ≤ MAX_DEPTH }
     ensures { IfOk result (λ step. (d : Data) × ReadsValue (5 * levels + 4) reader.old d reader.new
@@ -622,7 +622,7 @@ fn pull_steps(
     reader: &mut Reader<'_>,
     levels: usize,
     declared: &Declared,
-    state: &mut State,
+    state: &mut ReaderState,
 ) -> Result<Vec<Step>, Stop>
     requires few { levels ≤ MAX_DEPTH }
     ensures { IfOk result (λ steps. (ds : Items)
@@ -648,7 +648,7 @@ pub(crate) fn pull_block(
     reader: &mut Reader<'_>,
     levels: usize,
     declared: &Declared,
-    state: &mut State,
+    state: &mut ReaderState,
 ) -> Result<Block, Stop>
     requires few { levels ≤ MAX_DEPTH }
     ensures { IfOk result (λ block. (d : Data) × ReadsValue (5 * levels) reader.old d reader.new
@@ -671,7 +671,7 @@ pub(crate) fn pull_block_begun(
     reader: &mut Reader<'_>,
     levels: usize,
     declared: &Declared,
-    state: &mut State,
+    state: &mut ReaderState,
 ) -> Result<Block, Stop>
     requires few { levels ≤ MAX_DEPTH }
     ensures { IfOk result (λ block. (d : Data)

@@ -20,7 +20,7 @@ use doc_tree::counts::Counts;
 use doc_tree::hashing::Labels;
 use doc_tree::heads::take_labels;
 use doc_tree::labels::{add_new_label, seen_label};
-use doc_tree::state::State;
+use doc_tree::state::ReaderState;
 use json::Reader;
 use meaning::Test;
 use std::alloc::Global;
@@ -37,7 +37,7 @@ pub(crate) fn pull_if_head(
     alloc: Global,
     reader: &mut Reader<'_>,
     version: u8,
-    state: &mut State,
+    state: &mut ReaderState,
 ) -> Result<PulledIf, Stop>
     ensures { IfOk result (λ head. (name : List ℕ) × (key : TestKey) × (v : Data)
         × ((k : ℕ) (ms : Members) (new : List token.Token)

@@ -34,7 +34,7 @@ use doc_rules::Limits;
 use doc_tree::arguments::item_of;
 use doc_tree::counts::Counts;
 use doc_tree::declared::Declared;
-use doc_tree::hashing::Texts;
+use doc_tree::hashing::TextSet;
 use doc_tree::starts::{add_name, number_start, read_object, signed_start};
 use doc_tree::state::Numbering;
 use indexmap::IndexSet;
@@ -296,7 +296,7 @@ fn pull_declaration(
     alloc: Global,
     reader: &mut Reader<'_>,
     version: u8,
-    names: &mut Texts,
+    names: &mut TextSet,
     counts: &mut Counts,
     numbering: &mut Numbering,
 ) -> Result<ObjectValue, Stop>

@@ -25,7 +25,7 @@ use crate::stop::Stop;
 use batch::Block;
 use doc_rules::Limits;
 use doc_tree::declared::{Declared, Parts};
-use doc_tree::state::State;
+use doc_tree::state::ReaderState;
 use json::{Reader, Token};
 use meaning::limits::MAX_DEPTH;
 use std::alloc::Global;
@@ -45,7 +45,7 @@ fn pull_transaction(
     reader: &mut Reader<'_>,
     number: u32,
     declared: &Declared,
-    state: &mut State,
+    state: &mut ReaderState,
 ) -> Result<Block, Stop>
     requires { scope_of state.old.labels.entries ≡ [] }
     ensures { IfOk result (λ block. (d : Data)
@@ -66,7 +66,7 @@ fn push_transaction(
     reader: &mut Reader<'_>,
     declared: &Declared,
     transactions: &mut Vec<Block>,
-    state: &mut State,
+    state: &mut ReaderState,
 ) -> Result<(), Stop>
     requires { scope_of state.old.labels.entries ≡ [] }
     ensures read { IfOk result (λ _. AreRead (setting_of declared.now)
@@ -105,7 +105,7 @@ pub fn pull_range(
     reader: &mut Reader<'_>,
     declared: &Declared,
     transactions: &mut Vec<Block>,
-    state: &mut State,
+    state: &mut ReaderState,
 ) -> Result<RangeEnd, Stop>
     requires labels { scope_of state.old.labels.entries ≡ [] }
     ensures begins { IfOk result (λ _. (rest : List token.Token)
@@ -135,7 +135,7 @@ pub fn pull_range(
 fn pull_declared(
     alloc: Global,
     reader: &mut Reader<'_>,
-    state: &mut State,
+    state: &mut ReaderState,
 ) -> Result<Declared, Stop>
     requires labels { scope_of state.old.labels.entries ≡ [] }
     ensures head { IfOk result (λ declared. IsHead reader.old reader.new declared
@@ -164,7 +164,7 @@ fn pull_declared(
 pub fn pull_head_alone(
     alloc: Global,
     reader: &mut Reader<'_>,
-    state: &mut State,
+    state: &mut ReaderState,
 ) -> Result<Declared, Stop>
     requires labels { scope_of state.old.labels.entries ≡ [] }
     ensures head { IfOk result (λ declared. IsHead reader.old [] declared state.old.counts
@@ -183,7 +183,7 @@ pub fn pull_head_alone(
 pub fn pull_first_range(
     alloc: Global,
     reader: &mut Reader<'_>,
-    state: &mut State,
+    state: &mut ReaderState,
 ) -> Result<(Parts, RangeEnd), Stop>
     requires labels { scope_of state.old.labels.entries ≡ [] }
     ensures begun { IfOk result (λ first. IsBegun reader.old (left_by first.1) first.0.declared

@@ -26,7 +26,7 @@ use Rattle.doc_tree.specs.Asked.{if_shape_asked, key_of, kind_in, label_asked, l
 use Rattle.doc_tree.specs.Asked.{object_shape_asked, objects_in, operation_asked, pair_asked, parallel_shape_asked, part, scope_after}
 use Rattle.doc_tree.specs.Asked.{seen_asked, setting_in, signed_start, sort_of, sub_shape_asked, subject_of, test_asked, text_of}
 use Rattle.doc_tree.specs.Asked.{transactions_in, version_in}
-use Rattle.doc_tree.specs.Places.{Found, Placed, Places, Token, array_placed, below, block_placed, block_placed_if, children_placed}
+use Rattle.doc_tree.specs.Places.{Found, Placed, Places, PathStep, array_placed, below, block_placed, block_placed_if, children_placed}
 use Rattle.doc_tree.specs.Places.{elements_placed, entries_placed, fault_in, first_fault, go_on, handlers_placed, here, if_placed, inside}
 use Rattle.doc_tree.specs.Places.{itself, members_placed, nothing, object_placed, objects_placed, pairs_placed, parallel_placed, placed}
 use Rattle.doc_tree.specs.Places.{seek, start_placed, step_placed, step_placed_by, steps_placed, sub_placed, transactions_placed}
@@ -178,7 +178,7 @@ abbrev pub told : Result Counts Found → Result Counts Failure
 told (Ok c) = Ok c
 told (Err found) = Err found.failure
 
-told_below : (token : Token) (r : Result Counts Found) → told (below token r) ≡ told r
+told_below : (token : PathStep) (r : Result Counts Found) → told (below token r) ≡ told r
 told_below token (Ok c) = refl
 told_below token (Err found) = refl
 

@@ -11,7 +11,7 @@ use Rattle.doc_tree.specs.declared.counts.Counts.{Counts}
 use Rattle.doc_tree.specs.declared.unmet.Unmet.{Unmet}
 use Rattle.doc_tree.specs.Answer.{IsFirst, IsFound, found_of, pointer_text}
 use Rattle.doc_tree.specs.Demand.{Demand, check, holds}
-use Rattle.doc_tree.specs.Places.{Found, Placed, Places, Token, below, found_here, found_inside, go_on, here, inside, item_at, itself}
+use Rattle.doc_tree.specs.Places.{Found, Placed, Places, PathStep, below, found_here, found_inside, go_on, here, inside, item_at, itself}
 use Rattle.doc_tree.specs.Places.{member_named, member_placed, nothing, seek}
 use Rattle.doc_tree.specs.Scope.{Scope}
 use Rattle.doc_tree.proofs.Checks.{and_check, check-after, check-append, failed-before}
@@ -39,12 +39,12 @@ pub own_both : (c : Counts) (xs ys : List Demand) (rest : Placed)
 own_both c xs ys rest = own_rest (check c xs) ys rest ∙ ap (λ r. go_on (here r) (λ next. seek next rest)) (sym (check-append c xs ys))
 
 -- where those on the first part are met, the rest decides
-pub part_met : (c next : Counts) (token : Token) (part rest : Placed) → seek c part ≡ Ok next → seek c (inside token part rest)
+pub part_met : (c next : Counts) (token : PathStep) (part rest : Placed) → seek c part ≡ Ok next → seek c (inside token part rest)
     ≡ seek next rest
 part_met c next token part rest met = ap (λ r. go_on (below token r) (λ n. seek n rest)) met
 
 -- where one on the first part is not met, it is the first of all
-pub part_unmet : (c : Counts) (found : Found) (token : Token) (part rest : Placed) → seek c part ≡ Err found
+pub part_unmet : (c : Counts) (found : Found) (token : PathStep) (part rest : Placed) → seek c part ≡ Err found
     → seek c (inside token part rest) ≡ Err (found_inside token found)
 part_unmet c found token part rest failed = ap (λ r. go_on (below token r) (λ n. seek n rest)) failed
 
@@ -58,21 +58,21 @@ stopped (Ok c) found f is = cc
 stopped (Err other) found f is = is
 
 -- the same where the part is looked at in its place
-pub inside_met : (c next : Counts) (token : Token) (part rest : Placed) → seek c (inside token part nothing) ≡ Ok next
+pub inside_met : (c next : Counts) (token : PathStep) (part rest : Placed) → seek c (inside token part nothing) ≡ Ok next
     → seek c (inside token part rest) ≡ seek next rest
 inside_met c next token part rest met = ended (below token (seek c part)) next (λ n. seek n rest) met
 
-pub inside_unmet : (c : Counts) (found : Found) (token : Token) (part rest : Placed) → seek c (inside token part nothing) ≡ Err found
+pub inside_unmet : (c : Counts) (found : Found) (token : PathStep) (part rest : Placed) → seek c (inside token part nothing) ≡ Err found
     → seek c (inside token part rest) ≡ Err found
 inside_unmet c found token part rest failed = stopped (below token (seek c part)) found (λ n. seek n rest) failed
 
-over_met : (r : Result Counts Failure) (next : Counts) (token : Token) (part rest : Placed)
+over_met : (r : Result Counts Failure) (next : Counts) (token : PathStep) (part rest : Placed)
     → go_on (here r) (λ n. seek n (inside token part nothing)) ≡ Ok next → go_on (here r) (λ n. seek n (inside token part rest))
     ≡ seek next rest
 over_met (Ok n) next token part rest met = inside_met n next token part rest met
 over_met (Err e) next token part rest met = cc
 
-over_unmet : (r : Result Counts Failure) (found : Found) (token : Token) (part rest : Placed)
+over_unmet : (r : Result Counts Failure) (found : Found) (token : PathStep) (part rest : Placed)
     → go_on (here r) (λ n. seek n (inside token part nothing)) ≡ Err found → go_on (here r) (λ n. seek n (inside token part rest))
     ≡ Err found
 over_unmet (Ok n) found token part rest failed = inside_unmet n found token part rest failed
@@ -100,7 +100,7 @@ found_plain u e at none =
     ap₂ make (sym at) (sym (ap pointer_text none))
 
 -- the first demand of a part is the first of the value that it is in
-pub found_in : (c : Counts) (token : Token) (part rest : Placed) (unmet outer : Unmet)
+pub found_in : (c : Counts) (token : PathStep) (part rest : Placed) (unmet outer : Unmet)
     → (outer.failure ≢ NoMemory → (unmet.failure ≢ NoMemory) × (found_of outer ≡ found_inside token (found_of unmet)))
     → IsFound c part unmet → IsFound c (inside token part rest) outer
 found_in c token part rest unmet outer told found other =

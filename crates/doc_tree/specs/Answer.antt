@@ -1,14 +1,12 @@
 -- What a result says of what is asked.
-use Rattle.std.specs.Prelude.{◌≡◌, ◌≢◌, ℕ, List, [], Option, Some, Ok, Err, option_map, string_bytes, unwrap_or, String}
+use Rattle.std.specs.Prelude.{◌≡◌, ◌≢◌, ℕ, List, [], Option, Ok, Err, option_map, string_bytes, unwrap_or, String}
 use Rattle.std.specs.declared.alloc.Global.{Global}
 use Rattle.doc_rules.specs.declared.failure.Failure.{Failure}
 use Rattle.doc_rules.specs.declared.failure.Failure.TheVariants.{NoMemory}
 use Rattle.doc_tree.specs.declared.counts.Counts.{Counts}
 use Rattle.doc_tree.specs.declared.unmet.Unmet.{Unmet}
 use Rattle.doc_tree.specs.Demand.{Demand, check}
-use Rattle.doc_tree.specs.Places.{Found, Placed, fault_in, seek}
-use Rattle.faults.specs.declared.fault.Fault.{Fault}
-use Rattle.faults.specs.Faults.{memory_fault}
+use Rattle.doc_tree.specs.Places.{Found, Placed, seek}
 
 -- ---- of a value itself
 
@@ -36,7 +34,3 @@ found_of unmet = record { failure = unmet.failure; pointer = pointer_text unmet.
 -- unless memory was refused, the demand is the first that is not met
 abbrev pub IsFound : Counts → Placed → Unmet → Type 0
 IsFound c asked unmet = unmet.failure ≢ NoMemory → seek c asked ≡ Err (found_of unmet)
-
--- the same of its fault alone
-abbrev pub IsFirstOf : Counts → Placed → Fault → Type 0
-IsFirstOf c asked fault = fault ≢ memory_fault → fault_in (seek c asked) ≡ Some fault

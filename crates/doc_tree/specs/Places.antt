@@ -31,15 +31,15 @@ use Rattle.doc_tree.specs.Asked.{seen_asked, setting_in, signed_start, sort_of, 
 use Rattle.doc_tree.specs.Asked.{transactions_in, version_in}
 
 -- a member by its name, or an item by its index
-pub data Token : Type 0 where
-  member_named : List ℕ → Token
-  item_at : ℕ → Token
+pub data PathStep : Type 0 where
+  member_named : List ℕ → PathStep
+  item_at : ℕ → PathStep
 
 -- Demands on a value: those on itself, and those on its parts, in reading order.
 pub data Placed : Type 0 where
   nothing : Placed
   itself : List Demand → Placed → Placed
-  inside : Token → Placed → Placed → Placed
+  inside : PathStep → Placed → Placed → Placed
 
 -- ---- the first that is not met
 
@@ -48,21 +48,21 @@ pub record Found : Type 0 where
   pub failure : Failure
   pub pointer : List ℕ
 
-abbrev pub token_text : Token → List ℕ
+abbrev pub token_text : PathStep → List ℕ
 token_text (member_named name) = pointer_token name
 token_text (item_at index) = decimal index
 
 abbrev pub found_here : Failure → Found
 found_here failure = record { failure = failure; pointer = [] }
 
-abbrev pub found_inside : Token → Found → Found
+abbrev pub found_inside : PathStep → Found → Found
 found_inside token found = record { failure = found.failure; pointer = codes "/" ++ token_text token ++ found.pointer }
 
 abbrev pub here : Result Counts Failure → Result Counts Found
 here (Ok c) = Ok c
 here (Err failure) = Err (found_here failure)
 
-abbrev pub below : Token → Result Counts Found → Result Counts Found
+abbrev pub below : PathStep → Result Counts Found → Result Counts Found
 below token (Ok c) = Ok c
 below token (Err found) = Err (found_inside token found)
 

@@ -13,7 +13,7 @@ use crate::counts::Counts;
 use crate::hashing::Labels;
 use crate::labels::found_label;
 use crate::look::{count, has, has_only, text_item, text_member, whole_item};
-use crate::state::{Numbering, State, number_of_item};
+use crate::state::{Numbering, ReaderState, number_of_item};
 use crate::steps::read_reason;
 use atoms::{Amount, Item};
 use batch::is_name;
@@ -334,7 +334,7 @@ pub(crate) fn read_refusal(
     alloc: Global,
     step: &Value,
     version: u8,
-    state: &mut State,
+    state: &mut ReaderState,
 ) -> Result<Refusal, Failure>
     ensures met { OnOk result (IsMet state.old.counts
         (reason_asked version NameRule.Else (else_reason (view step.now))) state.new.counts) }

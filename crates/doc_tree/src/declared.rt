@@ -8,7 +8,7 @@ ghost use Rattle.meaning.specs.declared.limits.TheConstants.{MAX_OBJECTS};
 ghost use Rattle.doc_tree.specs.Digests.{AreRight};
 
 use crate::digests::Digest;
-use crate::hashing::Texts;
+use crate::hashing::TextSet;
 use crate::hints::is_at;
 use crate::outlines::Outlines;
 use batch::Block;
@@ -20,7 +20,7 @@ use std::alloc::Global;
 #[derive(Drop)]
 pub struct Declared {
     pub version: u8,
-    pub names: Texts,
+    pub names: TextSet,
     pub objects: Objects,
     outlines: Outlines,
     ghost named: { length names.keys ≡ length objects },
@@ -37,7 +37,7 @@ impl Declared {
     pub fn new(
         alloc: Global,
         version: u8,
-        names: Texts,
+        names: TextSet,
         objects: Objects,
     ) -> Result<Declared, NoMemory>
         requires named { length names.keys ≡ length objects }

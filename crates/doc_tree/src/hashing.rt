@@ -20,8 +20,8 @@ pub struct NameHashing {
     document: DefaultHasher,
 }
 
-/// Texts, each once, by number.
-pub type Texts = IndexSet<String, NameHashing>;
+/// TextSet, each once, by number.
+pub type TextSet = IndexSet<String, NameHashing>;
 
 /// Labels, each with what it is of.
 pub type Labels = IndexMap<String, Subject, NameHashing>;

@@ -14,7 +14,7 @@ use crate::conditions::{if_shape_of, read_test};
 use crate::counts::Counts;
 use crate::hashing::Labels;
 use crate::labels::{add_label, add_labels, check_label, seen_label};
-use crate::state::State;
+use crate::state::ReaderState;
 use crate::steps::{SubShape, children_of, sub_shape_of, taking};
 use batch::{Block, Handler, Step, Subaction};
 use doc_rules::{Failure, Subject};
@@ -41,7 +41,7 @@ pub(crate) fn if_head<'v>(
     alloc: Global,
     step: &'v Value,
     version: u8,
-    state: &mut State,
+    state: &mut ReaderState,
 ) -> Result<IfHead<'v>, Failure>
     ensures met { OnOk result (IsMet state.old.counts (if_head_asked version
         (scope_of state.old.labels.entries) (view step.now)) state.new.counts) }

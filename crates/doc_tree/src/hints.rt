@@ -4,7 +4,7 @@ ghost use Rattle.batch.specs.Names.{texts_of};
 ghost use Rattle.doc_tree.specs.Scope.{is_listed, place_of};
 
 use crate::digests::Digest;
-use crate::hashing::Texts;
+use crate::hashing::TextSet;
 use crate::state::fit;
 use serial::NoMemory;
 use std::alloc::Global;
@@ -26,7 +26,7 @@ impl Hints {
         }
     }
 
-    fn of_names(alloc: Global, names: &Texts) -> Result<Hints, NoMemory> {
+    fn of_names(alloc: Global, names: &TextSet) -> Result<Hints, NoMemory> {
         let ends = vec![in alloc; 0u32; names.len().saturating_mul(8)]?;
         let mut hints = Hints { ends };
         for (place, name) in names.as_slice().iter().enumerate() {
@@ -49,7 +49,7 @@ impl Hints {
         alloc: Global,
         name: &str,
         place: usize,
-        names: &Texts,
+        names: &TextSet,
     ) -> Result<(), NoMemory> {
         if self.ends.len() / 4 < names.len() {
             *self = Hints::of_names(alloc, names)?;
@@ -69,7 +69,7 @@ impl Hints {
 }
 
 /// Whether the name is at that place.
-pub(crate) fn is_at(names: &Texts, place: usize, name: &str) -> bool
+pub(crate) fn is_at(names: &TextSet, place: usize, name: &str) -> bool
     ensures place { IsTrue result → place_of name.now (texts_of names.now.keys) ≡ Some place }
     ensures within { IsTrue result → place < length names.now.keys }
 {
@@ -80,7 +80,7 @@ pub(crate) fn is_at(names: &Texts, place: usize, name: &str) -> bool
 }
 
 /// The place of a name, which is hashed.
-pub(crate) fn place_of(names: &Texts, name: &str) -> Option<usize>
+pub(crate) fn place_of(names: &TextSet, name: &str) -> Option<usize>
     ensures place { result ≡ place_of name.now (texts_of names.now.keys) }
     ensures listed { is_some result ≡ is_listed name.now (texts_of names.now.keys) }
     ensures within { IfSome result (λ place. place < length names.now.keys) }
@@ -89,7 +89,7 @@ pub(crate) fn place_of(names: &Texts, name: &str) -> Option<usize>
 }
 
 /// The place of a name. Where it is the one that is guessed, the name isn't hashed.
-pub(crate) fn place_in(names: &Texts, name: &str, guess: usize) -> Option<usize>
+pub(crate) fn place_in(names: &TextSet, name: &str, guess: usize) -> Option<usize>
     ensures place { result ≡ place_of name.now (texts_of names.now.keys) }
     ensures listed { is_some result ≡ is_listed name.now (texts_of names.now.keys) }
     ensures within { IfSome result (λ place. place < length names.now.keys) }

@@ -16,7 +16,7 @@ use crate::declared::Declared;
 use crate::hints::place_of;
 use crate::labels::{add_new_label, label_of};
 use crate::look::{has_only, text_item};
-use crate::state::State;
+use crate::state::ReaderState;
 use batch::{Filling, Step};
 use doc_rules::{Failure, Form, Rule, ShapeRule, Subject};
 use meaning::{Refusal, Template};
@@ -173,7 +173,7 @@ pub fn read_operation(
     alloc: Global,
     step: &Value,
     declared: &Declared,
-    state: &mut State,
+    state: &mut ReaderState,
 ) -> Result<Step, Failure>
     ensures met { OnOk result (IsMet state.old.counts (operation_asked (setting_of declared.now)
         (scope_of state.old.labels.entries) (view step.now)) state.new.counts) }

@@ -6,7 +6,7 @@ ghost use Rattle.batch.specs.Names.{texts_of};
 ghost use Rattle.doc_tree.specs.Digests.{digest_in, digest_of, AreRight, IsObject, IsRight};
 
 use crate::digests::Digest;
-use crate::hashing::Texts;
+use crate::hashing::TextSet;
 use objects::{Kind, Objects};
 use serial::NoMemory;
 use std::alloc::Global;
@@ -54,7 +54,11 @@ impl Outlines {
     /// The outlines of the objects under these names.
     ///
     /// Returns `NoMemory` where a request for memory was refused.
-    pub(crate) fn of(alloc: Global, names: &Texts, objects: &Objects) -> Result<Outlines, NoMemory>
+    pub(crate) fn of(
+        alloc: Global,
+        names: &TextSet,
+        objects: &Objects,
+    ) -> Result<Outlines, NoMemory>
         requires named { length names.now.keys ≡ length objects.now }
         requires few { length objects.now < 2 ^ 32 }
         ensures { IfOk result (λ outlines.

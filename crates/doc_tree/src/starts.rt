@@ -15,7 +15,7 @@ ghost use Rattle.doc_tree.specs.Spelled.{bind_all, entries_of, item_of, pair_of,
 use crate::arguments::{item_of, items_of};
 use crate::counts::Counts;
 use crate::declared::Declared;
-use crate::hashing::Texts;
+use crate::hashing::TextSet;
 use crate::look::{count, has_only, text_item, text_member};
 use crate::state::{Numbering, add_text};
 use crate::unmet::Unmet;
@@ -110,7 +110,7 @@ fn add_start(
     name: &str,
     version: u8,
     rule: Rule,
-    earlier: &mut Texts,
+    earlier: &mut TextSet,
     counts: &mut Counts,
 ) -> Result<(), Failure>
     ensures met { OnOk result (IsMet counts.old (new_start_asked version rule
@@ -132,7 +132,7 @@ fn read_element(
     alloc: Global,
     value: &Value,
     version: u8,
-    earlier: &mut Texts,
+    earlier: &mut TextSet,
     counts: &mut Counts,
     numbering: &mut Numbering,
 ) -> Result<Item, Failure>
@@ -168,7 +168,7 @@ fn read_elements(
     alloc: Global,
     list: &Vec<Value>,
     version: u8,
-    earlier: &mut Texts,
+    earlier: &mut TextSet,
     counts: &mut Counts,
     numbering: &mut Numbering,
 ) -> Result<ItemSet, Unmet>
@@ -250,7 +250,7 @@ fn check_pair<'v>(
     alloc: Global,
     value: &'v Value,
     version: u8,
-    earlier: &mut Texts,
+    earlier: &mut TextSet,
     counts: &mut Counts,
 ) -> Result<(&'v str, &'v str), Failure>
     ensures met { OnOk result (IsMet counts.old (pair_asked version (texts_of earlier.old.keys)
@@ -279,7 +279,7 @@ fn read_pair(
     alloc: Global,
     value: &Value,
     version: u8,
-    earlier: &mut Texts,
+    earlier: &mut TextSet,
     counts: &mut Counts,
     numbering: &mut Numbering,
 ) -> Result<(Item, Item), Failure>
@@ -302,7 +302,7 @@ fn read_pairs(
     alloc: Global,
     list: &Vec<Value>,
     version: u8,
-    earlier: &mut Texts,
+    earlier: &mut TextSet,
     counts: &mut Counts,
     numbering: &mut Numbering,
 ) -> Result<Directory, Unmet>
@@ -506,7 +506,7 @@ pub fn add_name(
     alloc: Global,
     name: &str,
     version: u8,
-    names: &mut Texts,
+    names: &mut TextSet,
     counts: &Counts,
 ) -> Result<(), Failure>
     ensures met { OnOk result (IsMet counts.now
@@ -533,7 +533,7 @@ pub fn read_object(
     alloc: Global,
     value: &Value,
     version: u8,
-    names: &mut Texts,
+    names: &mut TextSet,
     counts: &mut Counts,
     numbering: &mut Numbering,
 ) -> Result<ObjectValue, Unmet>
@@ -560,7 +560,7 @@ fn read_values(
     alloc: Global,
     list: &Vec<Value>,
     version: u8,
-    names: &mut Texts,
+    names: &mut TextSet,
     counts: &mut Counts,
     numbering: &mut Numbering,
 ) -> Result<Objects, Unmet>

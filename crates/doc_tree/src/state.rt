@@ -6,7 +6,7 @@ ghost use Rattle.doc_tree.specs.Scope.{fit, is_listed, no_numbers, number_of, nu
 
 use crate::counts::Counts;
 use crate::digests::Digest;
-use crate::hashing::{Labels, NameHashing, Texts};
+use crate::hashing::{Labels, NameHashing, TextSet};
 use crate::hints::{Hints, place_in};
 use batch::Step;
 use indexmap::{IndexMap, IndexSet};
@@ -16,8 +16,8 @@ use std::alloc::Global;
 /// The texts that are numbered so far, with hints at the places of the items.
 #[derive(Drop)]
 pub struct Numbering {
-    pub items: Texts,
-    pub reasons: Texts,
+    pub items: TextSet,
+    pub reasons: TextSet,
     pub(crate) hints: Hints,
 }
 
@@ -31,7 +31,7 @@ pub enum ReasonOrder {
 
 /// What has been counted, what is numbered, and the labels that are seen here.
 #[derive(Drop)]
-pub struct State {
+pub struct ReaderState {
     pub counts: Counts,
     pub numbering: Numbering,
     pub labels: Labels,
@@ -40,14 +40,14 @@ pub struct State {
     pub spares: Vec<Vec<Step>>,
 }
 
-impl State {
+impl ReaderState {
     /// Before anything is read of the document whose names are hashed so.
-    pub fn new(alloc: Global, hashing: NameHashing) -> State
+    pub fn new(alloc: Global, hashing: NameHashing) -> ReaderState
         ensures counts { result.counts ≡ no_counts }
         ensures numbers { numbers_of result.numbering ≡ no_numbers }
         ensures labels { scope_of result.labels.entries ≡ [] }
     {
-        State {
+        ReaderState {
             counts: Counts {
                 transaction: 0,
                 operations: 0,
@@ -78,7 +78,7 @@ pub fn fit(number: usize) -> u32
 }
 
 /// Adds a text to the others if it is new, and returns whether it is.
-pub(crate) fn add_text(alloc: Global, table: &mut Texts, text: &str) -> Result<bool, NoMemory>
+pub(crate) fn add_text(alloc: Global, table: &mut TextSet, text: &str) -> Result<bool, NoMemory>
     ensures new { IfOk result (λ new. new ≡ not (is_listed text.now (texts_of table.old.keys))) }
     ensures table { OnOk result (texts_of table.new.keys
         ≡ with_text text.now (texts_of table.old.keys)) }
@@ -88,7 +88,7 @@ pub(crate) fn add_text(alloc: Global, table: &mut Texts, text: &str) -> Result<b
 }
 
 /// The number of a text, which joins the others if it is new.
-pub fn number_of(alloc: Global, table: &mut Texts, text: &str) -> Result<u32, NoMemory>
+pub fn number_of(alloc: Global, table: &mut TextSet, text: &str) -> Result<u32, NoMemory>
     ensures number { IfOk result (λ number. number ≡ number_of text.now (texts_of table.old.keys)) }
     ensures table { OnOk result (texts_of table.new.keys
         ≡ with_text text.now (texts_of table.old.keys)) }

@@ -16,14 +16,14 @@ ghost use Rattle.meaning.specs.declared.limits.TheConstants.{MAX_DEPTH};
 
 use crate::counts::Counts;
 use crate::declared::Declared;
-use crate::hashing::{Labels, Texts};
+use crate::hashing::{Labels, TextSet};
 use crate::heads::{
     if_head, if_step, no_labels, parallel_head, parallel_step, sub_head, sub_step, subaction_of,
 };
 use crate::labels::{add_label, label_of, leave_block};
 use crate::look::{has, has_only, list_member, text_member};
 use crate::operations::read_operation;
-use crate::state::{State, number_of};
+use crate::state::{ReaderState, number_of};
 use crate::unmet::Unmet;
 use batch::{Block, Handler, Otherwise, Step, Subaction, is_name};
 use doc_rules::{Failure, Form, NameRule, Rule, ShapeRule, Subject};
@@ -88,7 +88,7 @@ pub fn reason_number(
     version: u8,
     rule: NameRule,
     counts: &Counts,
-    reasons: &mut Texts,
+    reasons: &mut TextSet,
 ) -> Result<u32, Failure>
     ensures met { OnOk result (is_name version reason.now ≡ true) }
     ensures first { IfErr result (λ failure. failure ≢ Failure.NoMemory
@@ -111,7 +111,7 @@ pub fn read_reason(
     reason: Option<&str>,
     version: u8,
     rule: NameRule,
-    state: &mut State,
+    state: &mut ReaderState,
 ) -> Result<Option<u32>, Failure>
     ensures met { OnOk result (IsMet state.old.counts
         (reason_asked version rule (option_map (λ text. text.now) reason.entry))
@@ -163,7 +163,12 @@ fn abort_of<'v>(
 ///
 /// Returns the first demand that isn't met, or that memory was refused.
 #[tactic(auto, using(crate::proofs::Checks::parts), unfolding(crate::specs::Asked::abort_asked, crate::specs::Spelled::abort_of))]
-fn read_abort(alloc: Global, step: &Value, version: u8, state: &mut State) -> Result<Step, Failure>
+fn read_abort(
+    alloc: Global,
+    step: &Value,
+    version: u8,
+    state: &mut ReaderState,
+) -> Result<Step, Failure>
     ensures met { OnOk result (IsMet state.old.counts (abort_asked version (view step.now))
         state.new.counts) }
     ensures first { IfErr result (IsFirst state.old.counts (abort_asked version (view step.now))) }
@@ -187,7 +192,7 @@ fn read_part(
     value: &Value,
     levels: usize,
     declared: &Declared,
-    state: &mut State,
+    state: &mut ReaderState,
 ) -> Result<Block, Unmet>
     ensures met { OnOk result (AreMet state.old.counts (inside (member_named name.now)
         (block_placed (setting_of declared.now) levels (scope_of state.old.labels.entries) (view
@@ -214,7 +219,7 @@ fn read_if(
     step: &Value,
     levels: usize,
     declared: &Declared,
-    state: &mut State,
+    state: &mut ReaderState,
 ) -> Result<Step, Unmet>
     ensures met { OnOk result (AreMet state.old.counts (if_placed declared.now.version
         (block_placed (setting_of declared.now) levels) (scope_of state.old.labels.entries)
@@ -306,7 +311,7 @@ fn read_handler(
     value: &Value,
     levels: usize,
     declared: &Declared,
-    state: &mut State,
+    state: &mut ReaderState,
 ) -> Result<Handler, Unmet>
     ensures met { OnOk result (AreMet state.old.counts (member_placed declared.now.version
         (block_placed (setting_of declared.now) levels)
@@ -345,7 +350,7 @@ pub fn read_members(
     members: &Map<String, Value>,
     levels: usize,
     declared: &Declared,
-    state: &mut State,
+    state: &mut ReaderState,
 ) -> Result<Vec<Handler>, Unmet>
     ensures met { OnOk result (AreMet state.old.counts (members_placed declared.now.version
         (block_placed (setting_of declared.now) levels)
@@ -377,7 +382,7 @@ fn read_handlers(
     handlers: Option<&Map<String, Value>>,
     levels: usize,
     declared: &Declared,
-    state: &mut State,
+    state: &mut ReaderState,
 ) -> Result<Option<Vec<Handler>>, Unmet>
     ensures met { OnOk result (AreMet state.old.counts (inside (member_named (codes "handlers"))
         (handlers_placed declared.now.version
@@ -437,7 +442,7 @@ fn read_sub(
     levels: usize,
     declared: &Declared,
     earlier: Option<&Labels>,
-    state: &mut State,
+    state: &mut ReaderState,
 ) -> Result<Subaction, Unmet>
     ensures met { OnOk result (AreMet state.old.counts (sub_placed declared.now.version
         (block_placed (setting_of declared.now) levels) (scope_of state.old.labels.entries)
@@ -480,7 +485,7 @@ fn read_sub_step(
     step: &Value,
     levels: usize,
     declared: &Declared,
-    state: &mut State,
+    state: &mut ReaderState,
 ) -> Result<Step, Unmet>
     ensures met { OnOk result (AreMet state.old.counts (sub_placed declared.now.version
         (block_placed (setting_of declared.now) levels)
@@ -508,7 +513,7 @@ fn read_children(
     levels: usize,
     declared: &Declared,
     earlier: &mut Labels,
-    state: &mut State,
+    state: &mut ReaderState,
 ) -> Result<Vec<Subaction>, Unmet>
     ensures met { OnOk result (AreMet state.old.counts (children_placed declared.now.version
         (block_placed (setting_of declared.now) levels)
@@ -567,7 +572,7 @@ fn read_parallel(
     step: &Value,
     levels: usize,
     declared: &Declared,
-    state: &mut State,
+    state: &mut ReaderState,
 ) -> Result<Step, Unmet>
     ensures met { OnOk result (AreMet state.old.counts (parallel_placed declared.now.version
         (block_placed (setting_of declared.now) levels)
@@ -603,7 +608,7 @@ fn read_part_if(
     value: Option<&Value>,
     levels: usize,
     declared: &Declared,
-    state: &mut State,
+    state: &mut ReaderState,
 ) -> Result<Option<Block>, Unmet>
     ensures met { OnOk result (AreMet state.old.counts (inside (member_named name.now)
         (block_placed_if (block_placed (setting_of declared.now) levels) (scope_of
@@ -641,7 +646,7 @@ pub fn read_step(
     step: &Value,
     levels: usize,
     declared: &Declared,
-    state: &mut State,
+    state: &mut ReaderState,
 ) -> Result<Step, Unmet>
     ensures met { OnOk result (AreMet state.old.counts
         (step_placed (block_placed (setting_of declared.now) levels) (setting_of declared.now)
@@ -679,7 +684,7 @@ fn read_steps(
     list: &Vec<Value>,
     levels: usize,
     declared: &Declared,
-    state: &mut State,
+    state: &mut ReaderState,
 ) -> Result<Vec<Step>, Unmet>
     ensures met { OnOk result (AreMet state.old.counts (steps_placed (block_placed (setting_of
         declared.now) levels)
@@ -713,7 +718,7 @@ fn read_block(
     value: &Value,
     levels: usize,
     declared: &Declared,
-    state: &mut State,
+    state: &mut ReaderState,
 ) -> Result<Block, Unmet>
     ensures met { OnOk result (AreMet state.old.counts (block_placed (setting_of declared.now)
         levels
@@ -750,7 +755,7 @@ pub fn read_transaction(
     value: &Value,
     number: u32,
     declared: &Declared,
-    state: &mut State,
+    state: &mut ReaderState,
 ) -> Result<Block, Unmet>
     requires { scope_of state.old.labels.entries ≡ [] }
     ensures met { OnOk result (AreMet state.old.counts (transaction_placed number (setting_of
@@ -773,7 +778,7 @@ pub fn read_transactions(
     alloc: Global,
     list: &Vec<Value>,
     declared: &Declared,
-    state: &mut State,
+    state: &mut ReaderState,
 ) -> Result<Vec<Block>, Unmet>
     requires transactions { length list.now.items ≤ (limits_of declared.now.version).transactions }
     requires labels { scope_of state.old.labels.entries ≡ [] }

@@ -1,12 +1,12 @@
 -- The value that a draft is, with those that it was, by what is kept of it. No public contract names it.
 use Rattle.objects.specs.declared.value.Value.{Value}
 use Rattle.objects.specs.declared.value.Value.TheVariants as value
-use Rattle.drafts.specs.declared.draft.Kept.{Kept}
-use Rattle.drafts.specs.declared.draft.Kept.TheVariants as kept
+use Rattle.drafts.specs.declared.draft.KindDraft.{KindDraft}
+use Rattle.drafts.specs.declared.draft.KindDraft.TheVariants as kept
 use Rattle.drafts.specs.History.{History, seen_as}
 use Rattle.drafts.specs.Numbers.{number_history}
 
-abbrev pub drafted : Kept → History Value
+abbrev pub drafted : KindDraft → History Value
 drafted (kept.Account draft) = seen_as value.Account (number_history draft)
 drafted (kept.Counter draft) = seen_as value.Counter (number_history draft)
 drafted (kept.Set draft) = seen_as value.Set draft

@@ -16,7 +16,7 @@ use std::marker::Model;
 
 /// What is kept of a value, by its kind.
 #[derive(Drop)]
-enum Kept<'s> {
+enum KindDraft<'s> {
     Account(NumberDraft<u64>),
     Counter(NumberDraft<i64>),
     Set(SetDraft<'s>),
@@ -29,7 +29,7 @@ enum Kept<'s> {
 /// the borrowed value is kept, and the rest is read from it.
 #[derive(Drop)]
 pub struct Draft<'s> {
-    kept: Kept<'s>,
+    kept: KindDraft<'s>,
 }
 
 impl<'s> Model for Draft<'s> {
@@ -53,12 +53,12 @@ impl<'s> Draft<'s> {
         ensures { result ≡ unchanged lent.now }
     {
         let kept = match lent {
-            Value::Account(number) => Kept::Account(NumberDraft::of(alloc, *number)),
-            Value::Counter(number) => Kept::Counter(NumberDraft::of(alloc, *number)),
-            Value::Set(value) => Kept::Set(SetDraft::of(alloc, value)),
-            Value::Queue(value) => Kept::Queue(QueueDraft::of(alloc, value)),
-            Value::Directory(value) => Kept::Directory(DirectoryDraft::of(alloc, value)),
-            Value::Max(number) => Kept::Max(NumberDraft::of(alloc, *number)),
+            Value::Account(number) => KindDraft::Account(NumberDraft::of(alloc, *number)),
+            Value::Counter(number) => KindDraft::Counter(NumberDraft::of(alloc, *number)),
+            Value::Set(value) => KindDraft::Set(SetDraft::of(alloc, value)),
+            Value::Queue(value) => KindDraft::Queue(QueueDraft::of(alloc, value)),
+            Value::Directory(value) => KindDraft::Directory(DirectoryDraft::of(alloc, value)),
+            Value::Max(number) => KindDraft::Max(NumberDraft::of(alloc, *number)),
         };
         Draft { kept }
     }
@@ -68,12 +68,12 @@ impl<'s> Draft<'s> {
         ensures { result ≡ kind_of_value self.now.value }
     {
         match &self.kept {
-            Kept::Account(_) => Kind::Account,
-            Kept::Counter(_) => Kind::Counter,
-            Kept::Set(_) => Kind::Set,
-            Kept::Queue(_) => Kind::Queue,
-            Kept::Directory(_) => Kind::Directory,
-            Kept::Max(_) => Kind::Max,
+            KindDraft::Account(_) => Kind::Account,
+            KindDraft::Counter(_) => Kind::Counter,
+            KindDraft::Set(_) => Kind::Set,
+            KindDraft::Queue(_) => Kind::Queue,
+            KindDraft::Directory(_) => Kind::Directory,
+            KindDraft::Max(_) => Kind::Max,
         }
     }
 
@@ -89,8 +89,14 @@ impl<'s> Draft<'s> {
         ensures { IsTrue result ↔ HasRoom self.now.value call.now }
     {
         match (&self.kept, call) {
-            (Kept::Account(draft), Call::Account(call)) => Account::has_room(&draft.number, call),
-            (Kept::Counter(draft), Call::Counter(call)) => Counter::has_room(&draft.number, call),
+            (KindDraft::Account(draft), Call::Account(call)) => Account::has_room(
+                &draft.number,
+                call,
+            ),
+            (KindDraft::Counter(draft), Call::Counter(call)) => Counter::has_room(
+                &draft.number,
+                call,
+            ),
             _ => true,
         }
     }
@@ -104,18 +110,18 @@ impl<'s> Draft<'s> {
             → IsNone result → IsSome (value_change self.now.value call.now) }
     {
         match (&self.kept, call) {
-            (Kept::Account(draft), Call::Account(call)) => {
+            (KindDraft::Account(draft), Call::Account(call)) => {
                 Account::look(draft.number, call).map(Reply::Account)
             }
-            (Kept::Counter(draft), Call::Counter(call)) => {
+            (KindDraft::Counter(draft), Call::Counter(call)) => {
                 Counter::look(draft.number, call).map(Reply::Counter)
             }
-            (Kept::Set(draft), Call::Set(call)) => draft.look(call).map(Reply::Set),
-            (Kept::Queue(draft), Call::Queue(call)) => draft.look(call).map(Reply::Queue),
-            (Kept::Directory(draft), Call::Directory(call)) => {
+            (KindDraft::Set(draft), Call::Set(call)) => draft.look(call).map(Reply::Set),
+            (KindDraft::Queue(draft), Call::Queue(call)) => draft.look(call).map(Reply::Queue),
+            (KindDraft::Directory(draft), Call::Directory(call)) => {
                 draft.look(call).map(Reply::Directory)
             }
-            (Kept::Max(draft), Call::Max(call)) => {
+            (KindDraft::Max(draft), Call::Max(call)) => {
                 MaxRegister::look(draft.number, call).map(Reply::Max)
             }
             _ => None,
@@ -133,18 +139,18 @@ impl<'s> Draft<'s> {
         ensures err { OnErr result (self.new ≡ self.old) }
     {
         match (&mut self.kept, call) {
-            (Kept::Account(draft), Call::Account(call)) => {
+            (KindDraft::Account(draft), Call::Account(call)) => {
                 Ok(Reply::Account(draft.perform::<Account>(call)?))
             }
-            (Kept::Counter(draft), Call::Counter(call)) => {
+            (KindDraft::Counter(draft), Call::Counter(call)) => {
                 Ok(Reply::Counter(draft.perform::<Counter>(call)?))
             }
-            (Kept::Set(draft), Call::Set(call)) => Ok(Reply::Set(draft.perform(call)?)),
-            (Kept::Queue(draft), Call::Queue(call)) => Ok(Reply::Queue(draft.perform(call)?)),
-            (Kept::Directory(draft), Call::Directory(call)) => {
+            (KindDraft::Set(draft), Call::Set(call)) => Ok(Reply::Set(draft.perform(call)?)),
+            (KindDraft::Queue(draft), Call::Queue(call)) => Ok(Reply::Queue(draft.perform(call)?)),
+            (KindDraft::Directory(draft), Call::Directory(call)) => {
                 Ok(Reply::Directory(draft.perform(call)?))
             }
-            (Kept::Max(draft), Call::Max(call)) => {
+            (KindDraft::Max(draft), Call::Max(call)) => {
                 Ok(Reply::Max(draft.perform::<MaxRegister>(call)?))
             }
             _ => unreachable!(),
@@ -164,13 +170,13 @@ impl<'s> Draft<'s> {
         ensures refused { OnErr result (KeepsItems self.old.value) }
     {
         match (&mut self.kept, call) {
-            (Kept::Account(draft), Call::Account(call)) => {
+            (KindDraft::Account(draft), Call::Account(call)) => {
                 Ok(Reply::Account(draft.settle::<Account>(call)?))
             }
-            (Kept::Counter(draft), Call::Counter(call)) => {
+            (KindDraft::Counter(draft), Call::Counter(call)) => {
                 Ok(Reply::Counter(draft.settle::<Counter>(call)?))
             }
-            (Kept::Max(draft), Call::Max(call)) => {
+            (KindDraft::Max(draft), Call::Max(call)) => {
                 Ok(Reply::Max(draft.settle::<MaxRegister>(call)?))
             }
             _ => {
@@ -186,12 +192,12 @@ impl<'s> Draft<'s> {
         ensures { self.new ≡ unchanged self.old.value }
     {
         match &mut self.kept {
-            Kept::Account(draft) => draft.forget(),
-            Kept::Counter(draft) => draft.forget(),
-            Kept::Set(draft) => draft.forget(),
-            Kept::Queue(draft) => draft.forget(),
-            Kept::Directory(draft) => draft.forget(),
-            Kept::Max(draft) => draft.forget(),
+            KindDraft::Account(draft) => draft.forget(),
+            KindDraft::Counter(draft) => draft.forget(),
+            KindDraft::Set(draft) => draft.forget(),
+            KindDraft::Queue(draft) => draft.forget(),
+            KindDraft::Directory(draft) => draft.forget(),
+            KindDraft::Max(draft) => draft.forget(),
         }
     }
 
@@ -200,12 +206,12 @@ impl<'s> Draft<'s> {
         ensures { self.new ≡ undone self.old }
     {
         match &mut self.kept {
-            Kept::Account(draft) => draft.undo(),
-            Kept::Counter(draft) => draft.undo(),
-            Kept::Set(draft) => draft.undo(),
-            Kept::Queue(draft) => draft.undo(),
-            Kept::Directory(draft) => draft.undo(),
-            Kept::Max(draft) => draft.undo(),
+            KindDraft::Account(draft) => draft.undo(),
+            KindDraft::Counter(draft) => draft.undo(),
+            KindDraft::Set(draft) => draft.undo(),
+            KindDraft::Queue(draft) => draft.undo(),
+            KindDraft::Directory(draft) => draft.undo(),
+            KindDraft::Max(draft) => draft.undo(),
         }
     }
 
@@ -215,12 +221,12 @@ impl<'s> Draft<'s> {
         ensures refused { OnErr result (KeepsItems self.now.value) }
     {
         match &self.kept {
-            Kept::Account(draft) => Ok(Value::Account(draft.number)),
-            Kept::Counter(draft) => Ok(Value::Counter(draft.number)),
-            Kept::Set(draft) => Ok(Value::Set(draft.whole()?)),
-            Kept::Queue(draft) => Ok(Value::Queue(draft.whole(alloc)?)),
-            Kept::Directory(draft) => Ok(Value::Directory(draft.whole()?)),
-            Kept::Max(draft) => Ok(Value::Max(draft.number)),
+            KindDraft::Account(draft) => Ok(Value::Account(draft.number)),
+            KindDraft::Counter(draft) => Ok(Value::Counter(draft.number)),
+            KindDraft::Set(draft) => Ok(Value::Set(draft.whole()?)),
+            KindDraft::Queue(draft) => Ok(Value::Queue(draft.whole(alloc)?)),
+            KindDraft::Directory(draft) => Ok(Value::Directory(draft.whole()?)),
+            KindDraft::Max(draft) => Ok(Value::Max(draft.number)),
         }
     }
 }

@@ -16,4 +16,4 @@ mod shown;
 mod slots;
 
 pub use draft::Draft;
-pub use shown::Shown;
+pub use shown::ShownValue;

@@ -2,7 +2,7 @@
 ghost use Rattle.std.specs.Prelude.{◌≡◌, ◌↔◌, IsTrue, Some, IfOk, IfSome, IsSome, IsNone, OnErr};
 ghost use Rattle.objects.specs.Objects.{kind_of_value, kind_of_call, one_value, HasRoom, KeepsItems};
 ghost use Rattle.objects.specs.Changes.{value_change};
-ghost use Rattle.drafts.specs.Shown.{shown_value};
+ghost use Rattle.drafts.specs.ShownValue.{shown_value};
 
 use crate::Draft;
 use objects::{Call, Reply, Value};
@@ -11,19 +11,19 @@ use std::alloc::Global;
 
 /// A borrowed value with no change, or a draft of one.
 #[derive(Clone, Copy)]
-pub enum Shown<'a, 's> {
+pub enum ShownValue<'a, 's> {
     Lent(&'s Value),
     Changed(&'a Draft<'s>),
 }
 
-impl<'a, 's> Shown<'a, 's> {
+impl<'a, 's> ShownValue<'a, 's> {
     /// Whether the call is of the value's kind.
     pub fn fits(&self, call: &Call) -> bool
         ensures { IsTrue result ↔ (kind_of_value (shown_value self.now) ≡ kind_of_call call.now) }
     {
         match self {
-            Shown::Lent(value) => value.fits(call),
-            Shown::Changed(draft) => draft.fits(call),
+            ShownValue::Lent(value) => value.fits(call),
+            ShownValue::Changed(draft) => draft.fits(call),
         }
     }
 
@@ -33,8 +33,8 @@ impl<'a, 's> Shown<'a, 's> {
         ensures { IsTrue result ↔ HasRoom (shown_value self.now) call.now }
     {
         match self {
-            Shown::Lent(value) => value.has_room(call),
-            Shown::Changed(draft) => draft.has_room(call),
+            ShownValue::Lent(value) => value.has_room(call),
+            ShownValue::Changed(draft) => draft.has_room(call),
         }
     }
 
@@ -48,8 +48,8 @@ impl<'a, 's> Shown<'a, 's> {
             → IsNone result → IsSome (value_change (shown_value self.now) call.now) }
     {
         match self {
-            Shown::Lent(value) => Draft::of(alloc, *value).look(call),
-            Shown::Changed(draft) => draft.look(call),
+            ShownValue::Lent(value) => Draft::of(alloc, *value).look(call),
+            ShownValue::Changed(draft) => draft.look(call),
         }
     }
 
@@ -59,8 +59,8 @@ impl<'a, 's> Shown<'a, 's> {
         ensures refused { OnErr result (KeepsItems (shown_value self.now)) }
     {
         match self {
-            Shown::Lent(value) => value.copy(),
-            Shown::Changed(draft) => draft.whole(alloc),
+            ShownValue::Lent(value) => value.copy(),
+            ShownValue::Changed(draft) => draft.whole(alloc),
         }
     }
 }

@@ -4,7 +4,7 @@ use Rattle.std.specs.List.{All}
 use Rattle.std.proofs.lemmas.List.Elements.{All-head, All-tail}
 use Rattle.objects.specs.Entries.{State, CommuteForward}
 use Rattle.meaning.specs.Trees.{Block}
-use Rattle.meaning.specs.Words.{Names}
+use Rattle.meaning.specs.Words.{Naming}
 use Rattle.meaning.proofs.Openings.{one_opening}
 use Rattle.explain.specs.Why.{Placed, IsFirstWithout, IsConflict, WhyFrom, IsLast, IsEnded, placed_nets, why_line}
 use Rattle.explain.specs.Laws.{DeterminedLaw}
@@ -41,7 +41,7 @@ one_first : {A : Type 0} (P : A → Type 0) (xs : List A) (x y : A) → IsFirstW
 one_first P xs x y one other = same_first P x y one.before one.after other.before other.after (sym one.is ∙ other.is) one.clear
     one.without other.clear other.without
 
-module _ (names : Names) (start : State) (batch : List Block) where
+module _ (names : Naming) (start : State) (batch : List Block) where
   same_line : (b m round : ℕ) (late early late_too early_too : Placed) → IsConflict names start batch b m late early
       → IsConflict names start batch b m late_too early_too
       → why_line names round late_too early_too ≡ why_line names round late early

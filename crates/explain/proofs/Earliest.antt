@@ -10,7 +10,7 @@ use Rattle.meaning.specs.Trees.{Block}
 use Rattle.meaning.specs.Shown.{end_of}
 use Rattle.meaning.specs.OneThread.{record_of, outcome_of}
 use Rattle.meaning.specs.Batch.{block_at, alone, run_nets}
-use Rattle.meaning.specs.Words.{Names}
+use Rattle.meaning.specs.Words.{Naming}
 use Rattle.batch.specs.Parts.{start_of, blocks_of}
 use Rattle.batch.specs.Views.{block_view, record_view}
 use Rattle.batch.specs.declared.batch.Batch.{Batch}
@@ -25,7 +25,7 @@ use Rattle.explain.proofs.Linked.{entries_in, left_in, end_of-shown, nets_entrie
 -- ---- the operations of a run
 
 -- what is placed of the record of a run
-pub run_places : (names : Names) (batch : Batch) (b i : ℕ) (run : Run) (block : declared_block.Block)
+pub run_places : (names : Naming) (batch : Batch) (b i : ℕ) (run : Run) (block : declared_block.Block)
     → IsRunOf (alone (start_of batch) (blocks_of batch) i b) run → i < length batch.transactions.items
     → block ≡ get_or batch.transactions.items i block
     → placed names (decimal (i + 1)) 1 (has_ended run.tree.outcome) (block_view block) (record_view run.tree)
@@ -55,7 +55,7 @@ commutes_with_all e (p ∷ ps) all = (
 
 -- ---- run after run
 
-module _ (names : Names) (start : State) (batch : List Block) where
+module _ (names : Naming) (start : State) (batch : List Block) where
   nets_more : (b i k : ℕ) → placed_nets names start batch b i (suc k)
       ≡ placed_nets names start batch b i k ++ left_in (placed_run names start batch (i + k) b)
   unfolding placed_nets

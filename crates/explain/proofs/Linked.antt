@@ -26,10 +26,11 @@ use Rattle.meaning.specs.Records.{Taken, Nothing, Took, TakenStep, TakenChild, T
 use Rattle.meaning.specs.Records.{entries_of_child, entries_of_handler, entries_of_children, kept, kept_of_step, kept_of_child}
 use Rattle.meaning.specs.Records.{kept_of_handler, kept_of_children, net}
 use Rattle.meaning.specs.Shown.{AtEnd, ShownChildren, shown, shown_step, shown_child, shown_children, end_of}
-use Rattle.meaning.specs.OneThread.{Run, Ran, record_of, outcome_of, operate, operate_made, operate_filled, choose, is_for, choose_handler}
+use Rattle.meaning.specs.OneThread.{Execution, Ran, record_of, outcome_of, operate, operate_made, operate_filled, choose, is_for}
+use Rattle.meaning.specs.OneThread.{choose_handler}
 use Rattle.meaning.specs.OneThread.{act, go_on, go_on_children, one, one_step, one_handler, one_children}
 use Rattle.meaning.specs.Batch.{block_at, state_at, alone, net_of, run_nets}
-use Rattle.meaning.specs.Words.{Names}
+use Rattle.meaning.specs.Words.{Naming}
 use Rattle.meaning.specs.Texts.{part, branch_path, handler_path, handler_block, pick, reason_of}
 use Rattle.explain.specs.Why.{Placed, has_ended, placed, placed_step, placed_child, placed_children, placed_run, placed_nets}
 
@@ -92,13 +93,13 @@ end_of-shown (Took step rest) outcome = end_of-shown rest outcome
 
 -- ---- parts of runs
 
-module _ (names : Names) where
+module _ (names : Naming) where
   -- the record of a block from its n-th step on
-  abbrev BlockPlaced : List ℕ → ℕ → Bool → Block → Run Taken → Type 0
+  abbrev BlockPlaced : List ℕ → ℕ → Bool → Block → Execution Taken → Type 0
   BlockPlaced path n stays block run = IsPlaced stays (placed names path n stays block (shown (record_of run) (outcome_of run)))
       (entries (record_of run)) (kept (record_of run))
 
-  abbrev StepPlaced : List ℕ → Bool → Step → Run TakenStep → Type 0
+  abbrev StepPlaced : List ℕ → Bool → Step → Execution TakenStep → Type 0
   StepPlaced path stays step run = IsPlaced stays (placed_step names path stays step (shown_step (record_of run)))
       (entries_of_step (record_of run)) (kept_of_step (record_of run))
 
@@ -106,15 +107,15 @@ module _ (names : Names) where
   placed_handler path stays block taken.NoHandler = []
   placed_handler path stays block (taken.Handled handler outcome) = placed names path 1 stays block (shown handler outcome)
 
-  abbrev HandlerPlaced : List ℕ → Bool → Block → Run TakenHandler → Type 0
+  abbrev HandlerPlaced : List ℕ → Bool → Block → Execution TakenHandler → Type 0
   HandlerPlaced path stays block run = IsPlaced stays (placed_handler path stays block (record_of run))
       (entries_of_handler (record_of run)) (kept_of_handler (record_of run))
 
-  abbrev ChildPlaced : List ℕ → Bool → Block → Handlers → Run TakenChild → Type 0
+  abbrev ChildPlaced : List ℕ → Bool → Block → Handlers → Execution TakenChild → Type 0
   ChildPlaced path stays body handlers run = IsPlaced stays (placed_child names path stays body handlers (shown_child (record_of run)))
       (entries_of_child (record_of run)) (kept_of_child (record_of run))
 
-  abbrev ChildrenPlaced : List ℕ → ℕ → Bool → Children → Run TakenChildren → Type 0
+  abbrev ChildrenPlaced : List ℕ → ℕ → Bool → Children → Execution TakenChildren → Type 0
   ChildrenPlaced path n stays children run = IsPlaced stays (placed_children names path n stays children (shown_children (record_of run)))
       (entries_of_children (record_of run)) (kept_of_children (record_of run))
 
@@ -154,14 +155,14 @@ module _ (names : Names) where
       made_placed path stays object template labelled refusal state call (reply_at state object call)
 
   choice_placed : (path : List ℕ) (stays : Bool) (label : ℕ) (test : Test) (first second : Block) (chosen : Bool)
-      (then else : State → Run Taken) (state : State) → BlockPlaced (branch_path path true) 1 stays first (then state)
+      (then else : State → Execution Taken) (state : State) → BlockPlaced (branch_path path true) 1 stays first (then state)
       → BlockPlaced (branch_path path false) 1 stays second (else state)
       → StepPlaced path stays (If label test first second) (choose chosen then else state)
   choice_placed path stays label test first second true then else state is other = is
   choice_placed path stays label test first second false then else state other is = is
 
-  handler_choice_placed : (here there : List ℕ) (stays : Bool) (first second : Block) (takes : Bool) (handler : State → Run Taken)
-      (others : State → Run TakenHandler) (state : State) → BlockPlaced here 1 stays first (handler state)
+  handler_choice_placed : (here there : List ℕ) (stays : Bool) (first second : Block) (takes : Bool) (handler : State → Execution Taken)
+      (others : State → Execution TakenHandler) (state : State) → BlockPlaced here 1 stays first (handler state)
       → HandlerPlaced there stays second (others state)
       → HandlerPlaced (pick takes here there) stays (pick takes first second) (choose_handler takes handler others state)
   handler_choice_placed here there stays first second true handler others state is other = is
@@ -193,8 +194,8 @@ module _ (names : Names) where
       (entries body ++ entries handler) (kept handler)) (sym (end_of-shown body (Aborted reason)))
       (both stays _ _ _ _ _ _ (taken_back stays _ _ _ (is (stays && false))) handled)
 
-  act_placed : (path : List ℕ) (stays labelled : Bool) (block : Block) (handlers : Handlers) (body : Run Taken)
-      (handle : Option ℕ → State → Run TakenHandler) (state : State)
+  act_placed : (path : List ℕ) (stays labelled : Bool) (block : Block) (handlers : Handlers) (body : Execution Taken)
+      (handle : Option ℕ → State → Execution TakenHandler) (state : State)
       → ((s : Bool) → BlockPlaced (path ++ codes ".b") 1 s block body)
       → ((reason : Option ℕ) → HandlerPlaced (handler_path names path handlers reason) stays (handler_block handlers reason)
       (handle reason state))
@@ -204,8 +205,8 @@ module _ (names : Names) where
   act_placed path stays labelled block handlers (Ran body (Aborted reason) labels after_body) handle state is handled =
       undone_child path stays block body reason handlers (record_of (handle reason state)) is (handled reason)
 
-  go_on_placed : (path : List ℕ) (n : ℕ) (stays : Bool) (step : Step) (block : Block) (run : Run TakenStep)
-      (rest : List Held → State → Run Taken) → StepPlaced (part path n) stays step run
+  go_on_placed : (path : List ℕ) (n : ℕ) (stays : Bool) (step : Step) (block : Block) (run : Execution TakenStep)
+      (rest : List Held → State → Execution Taken) → StepPlaced (part path n) stays step run
       → ((labels : List Held) (state : State) → BlockPlaced path (n + 1) stays block (rest labels state))
       → BlockPlaced path n stays (Steps step block) (go_on run rest)
   go_on_placed path n stays step block (Ran done Ended labels state) rest first others =
@@ -214,7 +215,7 @@ module _ (names : Names) where
       both stays _ _ _ _ _ _ first (end_placed path (n + 1) stays block (Aborted reason))
 
   go_on_children_placed : (path : List ℕ) (n : ℕ) (stays labelled : Bool) (block : Block) (handlers : Handlers) (younger : Children)
-      (run : Run TakenChild) (rest : State → Run TakenChildren) → ChildPlaced (part path n) stays block handlers run
+      (run : Execution TakenChild) (rest : State → Execution TakenChildren) → ChildPlaced (part path n) stays block handlers run
       → ((state : State) → ChildrenPlaced path (n + 1) stays younger (rest state))
       → ChildrenPlaced path n stays (Children.Child block handlers labelled younger) (go_on_children run rest)
   go_on_children_placed path n stays labelled block handlers younger (Ran done Ended labels state) rest first others =
@@ -276,14 +277,14 @@ kept_if-net : (done : Taken) (outcome : End) → kept_if (has_ended outcome) (ke
 kept_if-net done Ended = refl
 kept_if-net done (Aborted reason) = refl
 
-module _ (names : Names) (start : State) (batch : List Block) where
+module _ (names : Naming) (start : State) (batch : List Block) where
   pub run_entries : (i b : ℕ) → entries_in (placed_run names start batch i b) ≡ entries (record_of (alone start batch i b))
   run_entries i b = (block_placed names (decimal (i + 1)) 1 (has_ended (outcome_of (alone start batch i b))) (block_at batch i) []
       (state_at start batch b)).all
 
   pub run_net : (i b : ℕ) → entries_in (left_in (placed_run names start batch i b)) ≡ net_of (alone start batch i b)
   run_net i b =
-      let run : Run Taken = alone start batch i b in
+      let run : Execution Taken = alone start batch i b in
       (block_placed names (decimal (i + 1)) 1 (has_ended (outcome_of run)) (block_at batch i) [] (state_at start batch b)).left
       ∙ kept_if-net (record_of run) (outcome_of run)
 

@@ -7,7 +7,7 @@ use Rattle.meaning.specs.declared.end.End.{End}
 use Rattle.meaning.specs.Trees as meant
 use Rattle.meaning.specs.Trees.{NoStep, NoChild}
 use Rattle.meaning.specs.Shown.{Shown, AtEnd, First, ShownChildren, end_of}
-use Rattle.meaning.specs.Words.{Names}
+use Rattle.meaning.specs.Words.{Naming}
 use Rattle.meaning.specs.Texts.{reason_of, handler_path, handler_block, part}
 use Rattle.batch.specs.Views.{block_view, step_view, steps_view, subaction_view, children_view, taken_view, record_view, before_end}
 use Rattle.batch.specs.Views.{tried_view, before_younger}
@@ -20,7 +20,7 @@ use Rattle.batch.proofs.CountLemmas.{left}
 use Rattle.report.proofs.TextLemmas.{end_of-record_view}
 use Rattle.explain.specs.Why.{Placed, has_ended, placed, placed_step, placed_child, placed_children}
 
-module _ (names : Names) (path : List ℕ) (stays : Bool) where
+module _ (names : Naming) (path : List ℕ) (stays : Bool) where
   -- no step, no operation
   pub none_placed : (n : ℕ) (done : Shown) → placed names path n stays NoStep done ≡ []
   none_placed n (AtEnd outcome) = refl
@@ -119,7 +119,7 @@ after_more mid new these rest more all is made splits = ap (λ x. x ++ more) mad
     ∙ ap (λ x. mid ++ x) (sym splits) ∙ is
 
 -- the operations of a subaction
-module _ (names : Names) (path : List ℕ) (stays : Bool) (child : Subaction) (body : Record) where
+module _ (names : Naming) (path : List ℕ) (stays : Bool) (child : Subaction) (body : Record) where
   abbrev pub body_placed : List Placed
   body_placed = placed names (path ++ codes ".b") 1 (stays && has_ended body.outcome) (block_view (out-Subaction child).body)
       (record_view body)

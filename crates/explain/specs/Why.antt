@@ -12,7 +12,7 @@ use Rattle.meaning.specs.Shown.{BodyAndHandler, ShownChildren, end_of}
 use Rattle.meaning.specs.OneThread.{outcome_of}
 use Rattle.meaning.specs.Batch.{block_at, shown_of, alone, nets}
 use Rattle.meaning.specs.Rounds.{IsNextOpening}
-use Rattle.meaning.specs.Words.{Names, call_text, reply_text}
+use Rattle.meaning.specs.Words.{Naming, call_text, reply_text}
 use Rattle.meaning.specs.Texts.{line, part, branch_path, branch_of, handler_path, handler_block, reason_of}
 
 -- an operation of a run with the path of its step, and whether the run leaves it
@@ -27,13 +27,13 @@ has_ended (Aborted reason) = false
 
 abbrev mutual
   -- the operations of the steps of a block from the n-th on. Those of an aborted body are not left; none is where `left` is false
-  pub placed : Names → List ℕ → ℕ → Bool → Block → Shown → List Placed
+  pub placed : Naming → List ℕ → ℕ → Bool → Block → Shown → List Placed
   placed names path n left (Steps step rest) (First done others) =
       placed_step names (part path n) left step done ++ placed names path (n + 1) left rest others
   placed names path n left NoStep (First done others) = []
   placed names path n left block (AtEnd outcome) = []
 
-  pub placed_step : Names → List ℕ → Bool → Step → ShownStep → List Placed
+  pub placed_step : Naming → List ℕ → Bool → Step → ShownStep → List Placed
   placed_step names path left (Operation object call labelled) (Replied reply) =
       record { path = path; entry = record { object = object; call = call; reply = reply }; left = left } ∷ []
   placed_step names path left (Fill object template labelled refusal) (Filled call reply) =
@@ -44,7 +44,7 @@ abbrev mutual
   placed_step names path left (Parallel children) (InParallel done) = placed_children names path 1 left children done
   placed_step names path left step done = []
 
-  pub placed_child : Names → List ℕ → Bool → Block → Handlers → ShownChild → List Placed
+  pub placed_child : Naming → List ℕ → Bool → Block → Handlers → ShownChild → List Placed
   placed_child names path left block handlers (Body body) =
       placed names (path ++ codes ".b") 1 (left && has_ended (end_of body)) block body
   placed_child names path left block handlers (BodyAndHandler body handler) =
@@ -53,7 +53,7 @@ abbrev mutual
       handler
 
   -- those of the children of a step from the n-th on
-  pub placed_children : Names → List ℕ → ℕ → Bool → Children → ShownChildren → List Placed
+  pub placed_children : Naming → List ℕ → ℕ → Bool → Children → ShownChildren → List Placed
   placed_children names path n left (Children.Child body handlers labelled younger) (ShownChildren.Child done others) =
       placed_child names (part path n) left body handlers done ++ placed_children names path (n + 1) left younger others
   placed_children names path n left Children.NoChild (ShownChildren.Child done others) = []
@@ -67,16 +67,16 @@ pub record IsFirstWithout {A : Type 0} (P : A → Type 0) (xs : List A) (x : A) 
   pub clear : All P before
   pub without : ¬ P x
 
-abbrev pub place_text : Names → Placed → List ℕ
+abbrev pub place_text : Naming → Placed → List ℕ
 place_text names p =
     p.path ++ codes " " ++ names.object p.entry.object ++ codes " " ++ call_text names p.entry.call ++ codes " = "
     ++ reply_text names p.entry.reply
 
-abbrev pub why_line : Names → ℕ → Placed → Placed → List ℕ
+abbrev pub why_line : Naming → ℕ → Placed → Placed → List ℕ
 why_line names round late early =
     line (codes "why " ++ decimal round ++ codes " " ++ place_text names late ++ codes " after " ++ place_text names early)
 
-module _ (names : Names) (start : State) (batch : List Block) where
+module _ (names : Naming) (start : State) (batch : List Block) where
   -- the operations of transaction i (from 0), run on the state after the first b
   abbrev pub placed_run : ℕ → ℕ → List Placed
   placed_run i b =

@@ -12,7 +12,7 @@ use Rattle.intentions.specs.declared.view.NetList.TheVariants.{Entries, Own}
 use Rattle.intentions.specs.declared.view.View.TheInside.{Inside}
 use Rattle.intentions.specs.Levels.{Intentions, shown_values, all_levels, committed, listed_by, AllHaveRoom}
 use Rattle.intentions.specs.Starts.{IsNested, innermost, around, at_starts}
-use Rattle.intentions.specs.Layers.{States, IsKept, CanList}
+use Rattle.intentions.specs.Layers.{States, AreLayersOf, CanList}
 use Rattle.intentions.proofs.EntriesLemmas.{after-append, length-after, legal-append, room-append, legal-take, room-take}
 use Rattle.intentions.proofs.LayersLemmas.{states_of}
 use Rattle.intentions.proofs.StartsLemmas.{nested_more, at_starts-append, innermost_joined, around-take}
@@ -37,7 +37,7 @@ abbrev pub nets_of : Inside → List Entry
 nets_of v = listed_by v.listed v.entries.items v.net.items
 
 abbrev pub KeptView : Inside → Type 0
-KeptView v = IsKept v.snapshot.now (nets_of v) (reverse v.marks.items) v.layers × CanList v.listed v.entries.items v.net
+KeptView v = AreLayersOf v.snapshot.now (nets_of v) (reverse v.marks.items) v.layers × CanList v.listed v.entries.items v.net
 
 abbrev pub view_of : Inside → Intentions
 view_of v = view_parts v.snapshot.now v.entries.items (nets_of v) (reverse v.marks.items)
@@ -79,8 +79,8 @@ committed_view snapshot entries net start starts v is nested =
 
 -- more entries in the innermost level, each legal and with room
 pub kept_absorbing : (snapshot : List Value) (net more new_net : List Entry) (starts : List ℕ) (layers new : States)
-    → IsKept snapshot net starts layers → AreLegal layers.shown more → AllHaveRoom layers.shown more
-    → new.shown ≡ after layers.shown more → new.begun ≡ layers.begun → new_net ≡ net ++ more → IsKept snapshot new_net starts new
+    → AreLayersOf snapshot net starts layers → AreLegal layers.shown more → AllHaveRoom layers.shown more
+    → new.shown ≡ after layers.shown more → new.begun ≡ layers.begun → new_net ≡ net ++ more → AreLayersOf snapshot new_net starts new
 kept_absorbing snapshot net more new_net starts layers new kept legal room shown_is begun_is net_is =
     let shows : layers.shown ≡ after snapshot net = ap (λ (s : States). s.shown) kept.shows in
     let shown_after : new.shown ≡ after snapshot new_net =
@@ -100,14 +100,14 @@ kept_absorbing snapshot net more new_net starts layers new kept legal room shown
 
 -- the innermost level taken back
 pub kept_aborting : (snapshot : List Value) (net new_net : List Entry) (start : ℕ) (starts : List ℕ) (layers new : States)
-    → IsKept snapshot net (start ∷ starts) layers → layers.begun ≡ new.shown ∷ new.begun → new_net ≡ take start net
-    → IsKept snapshot new_net starts new
+    → AreLayersOf snapshot net (start ∷ starts) layers → layers.begun ≡ new.shown ∷ new.begun → new_net ≡ take start net
+    → AreLayersOf snapshot new_net starts new
 kept_aborting snapshot net new_net start starts layers new kept back net_is =
     let begun_is : new.shown ∷ new.begun ≡ after snapshot (take start net) ∷ at_starts (after snapshot) starts (take start net) =
     sym back ∙ ap (λ (s : States). s.begun) kept.shows in
     let shown_after : new.shown ≡ after snapshot (take start net) = cc in
     let begun_after : new.begun ≡ at_starts (after snapshot) starts (take start net) = cc in
-    subst (λ n. IsKept snapshot n starts new) (sym net_is) (record {
+    subst (λ n. AreLayersOf snapshot n starts new) (sym net_is) (record {
       shows = states_of shown_after begun_after;
       nested = subst (IsNested starts) (sym (length-take-le start net kept.nested.0)) kept.nested.1;
       legal = legal-take snapshot start net kept.legal;

@@ -53,7 +53,7 @@ abbrev pub states_after : List Value → List Entry → List ℕ → States
 states_after snapshot net starts = record { shown = after snapshot net; begun = at_starts (after snapshot) starts net }
 
 -- what a view keeps: its layers show its net, each entry of which was legal and had room
-pub record IsKept (snapshot : List Value) (net : List Entry) (starts : List ℕ) (layers : States) : Type 0 where
+pub record AreLayersOf (snapshot : List Value) (net : List Entry) (starts : List ℕ) (layers : States) : Type 0 where
   pub shows : layers ≡ states_after snapshot net starts
   pub nested : IsNested starts (length net)
   pub legal : AreLegal snapshot net

@@ -3,13 +3,13 @@ ghost use Rattle.std.specs.Prelude.{◌≡◌, ◌<◌, ℕ, List, length, None,
 ghost use Rattle.objects.specs.Objects.{kind_of_value, kind_of_call, one_value, HasRoom};
 ghost use Rattle.objects.specs.Changes.{value_change};
 ghost use Rattle.objects.specs.declared.value.Value.{Value};
-ghost use Rattle.drafts.specs.Shown.{shown_value};
+ghost use Rattle.drafts.specs.ShownValue.{shown_value};
 ghost use Rattle.drafts.specs.History.{unchanged, changed};
 ghost use Rattle.intentions.specs.DraftTables.{drafts_of, draft_at, IsPut, IsPlaceOf};
 ghost use Rattle.intentions.specs.Layers.{histories, undo_at};
 
 use crate::places::PagedPlaces;
-use drafts::{Draft, Shown};
+use drafts::{Draft, ShownValue};
 use objects::{Call, Reply, Value};
 use serial::NoMemory;
 use std::alloc::Global;
@@ -71,14 +71,14 @@ impl<'s> DraftTable<'s> {
     }
 
     /// The draft that was found, or else the borrowed value.
-    pub fn shown(&self, found: Option<usize>, lent: &'s Value) -> Shown<'_, 's>
+    pub fn shown(&self, found: Option<usize>, lent: &'s Value) -> ShownValue<'_, 's>
         requires { IfSome found (λ place. IsSome (draft_at self.now place)) }
         ensures { shown_value result ≡ (unwrap_or (option_and_then (draft_at self.now) found)
             (unchanged lent.now)).value }
     {
         match found {
-            Some(place) => Shown::Changed(&self.drafts[place].draft),
-            None => Shown::Lent(lent),
+            Some(place) => ShownValue::Changed(&self.drafts[place].draft),
+            None => ShownValue::Lent(lent),
         }
     }
 

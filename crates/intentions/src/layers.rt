@@ -1,6 +1,6 @@
 //! Drafts of changed values over a snapshot, in levels.
 ghost use Rattle.std.specs.Prelude.{◌≡◌, ◌<◌, ◌≤◌, List, [], ◌∷◌, length, reverse, slice_get, Some, IfOk, OnOk, OnErr, take, drop, option_map};
-ghost use Rattle.drafts.specs.Shown.{shown_value};
+ghost use Rattle.drafts.specs.ShownValue.{shown_value};
 ghost use Rattle.objects.specs.Objects.{objects, Fits, ObjectHasRoom};
 ghost use Rattle.intentions.specs.Levels.{AllHaveRoom};
 ghost use Rattle.objects.specs.Entries.{after, AreLegal};
@@ -10,7 +10,7 @@ ghost use Rattle.intentions.specs.Layers.{States, histories, drafts_rewound};
 
 use crate::draft_table::DraftTable;
 use crate::places::PagedPlaces;
-use drafts::Shown;
+use drafts::ShownValue;
 use objects::{Call, Entry, Objects, Reply};
 use serial::NoMemory;
 use std::alloc::Global;
@@ -80,7 +80,7 @@ impl<'s> Layers<'s> {
     }
 
     /// What is shown of the object, if it is there.
-    pub fn value(&self, object: u32) -> Option<Shown<'_, 's>>
+    pub fn value(&self, object: u32) -> Option<ShownValue<'_, 's>>
         ensures { option_map shown_value result ≡ slice_get self.now.shown object }
     {
         match self.snapshot.value(object) {

@@ -131,7 +131,7 @@ impl<'s> Model for View<'s> {
     ghost use Rattle.objects.specs.contracts.entry.Entry as one_entry_type;
     ghost use Rattle.intentions.specs.Levels.{Intentions, listed_by};
     ghost use Rattle.intentions.specs.Starts.{innermost, around};
-    ghost use Rattle.intentions.specs.Layers.{IsKept, CanList};
+    ghost use Rattle.intentions.specs.Layers.{AreLayersOf, CanList};
 
     ghost Value = { Intentions };
 
@@ -145,7 +145,7 @@ impl<'s> Model for View<'s> {
     } };
 
     ghost invariant = { λ v.
-        IsKept v.snapshot.now (listed_by v.listed v.entries.items v.net.items)
+        AreLayersOf v.snapshot.now (listed_by v.listed v.entries.items v.net.items)
         (reverse v.marks.items) v.layers
         × CanList v.listed v.entries.items v.net };
 }

@@ -10,7 +10,7 @@ use Rattle.doc_tree.specs.declared.counts.Counts.{Counts}
 use Rattle.doc_tree.specs.declared.unmet.Unmet.{Unmet}
 use Rattle.doc_tree.specs.Answer.{IsFound, found_of, pointer_text}
 use Rattle.doc_tree.specs.Demand.{check}
-use Rattle.doc_tree.specs.Places.{Found, Placed, Token, below, found_here, found_inside, go_on, here, inside, item_at, itself, nothing}
+use Rattle.doc_tree.specs.Places.{Found, Placed, PathStep, below, found_here, found_inside, go_on, here, inside, item_at, itself, nothing}
 use Rattle.doc_tree.specs.Places.{seek, token_text}
 use Rattle.lang.specs.declared.misread.Misread.{Misread}
 use Rattle.lang.specs.Found.{IsBelow, IsFirstIn, found_by, part_at}
@@ -23,7 +23,7 @@ own_path : (r : Result Counts Failure) (f : Counts → Result Counts Found) (fou
 own_path (Ok next) f found later is = later next is
 own_path (Err failure) f found later is = let same : found_here failure ≡ found = cc in inl (sym (ap (λ x. x.pointer) same))
 
-part_path : (token : Token) (r : Result Counts Found) (f : Counts → Result Counts Found) (found : Found)
+part_path : (token : PathStep) (r : Result Counts Found) (f : Counts → Result Counts Found) (found : Found)
     → ((next : Counts) → f next ≡ Err found → IsPath found.pointer) → go_on (below token r) f ≡ Err found → IsPath found.pointer
 part_path token (Ok next) f found later is = later next is
 part_path token (Err inner) f found later is =
@@ -39,7 +39,7 @@ found_path (inside token part rest) c found is =
 -- ---- what is found in a part
 
 -- the first rule that isn't kept in a value to which a token leads, seen from the value before it
-pub first_below : (token : Token) (whole d : Data)
+pub first_below : (token : PathStep) (whole d : Data)
     → ((p : List ℕ) → IsPath p → points_to (codes "/" ++ token_text token ++ p) whole ≡ points_to p d)
     → (c start : Counts) (asked all : Placed) (inner outer : Misread)
     → ((found : Found) → seek c asked ≡ Err found → seek start all ≡ Err (found_inside token found))

@@ -25,7 +25,7 @@ use doc_tokens::ranges::{RangeEnd, pull_head_alone};
 use doc_tokens::stop::Stop;
 use doc_tree::declared::{Declared, Parts};
 use doc_tree::hashing::NameHashing;
-use doc_tree::state::State;
+use doc_tree::state::ReaderState;
 use json::{Reader, Scratch};
 use memchr::memmem;
 use std::alloc::Global;
@@ -104,7 +104,7 @@ fn ranges_from(
 }
 
 /// What the text declares, which is the head of a document.
-fn read_head(alloc: Global, head: &str, state: &mut State) -> Result<Declared, Stop>
+fn read_head(alloc: Global, head: &str, state: &mut ReaderState) -> Result<Declared, Stop>
     requires { scope_of state.old.labels.entries ≡ [] }
     ensures head { IfOk result (λ declared. IsHead (tokens head.now) [] declared
         state.old.counts (numbers_of state.old.numbering)
@@ -188,7 +188,7 @@ pub(crate) fn pull_at_once<T: Threads + Sync>(
     text: &str,
     parts: usize,
     hashing: NameHashing,
-    state: &mut State,
+    state: &mut ReaderState,
 ) -> Result<Parts, Stop>
     requires { scope_of state.old.labels.entries ≡ [] }
     ensures { IfOk result (λ parts. (d : Data) × ReadsValue 127 (tokens text.now) d []

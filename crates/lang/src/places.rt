@@ -16,7 +16,7 @@ use crate::positions::{Position, position_of};
 use doc_mistakes::{place_within, words};
 use doc_rules::{CountRule, LAST_VERSION, MAX_BYTES, Rule};
 use doc_tree::hashing::NameHashing;
-use doc_tree::state::State;
+use doc_tree::state::ReaderState;
 use faults::{Code, Fault};
 use serde_json::Value;
 use std::alloc::{AllocError, Global};
@@ -88,7 +88,7 @@ fn locate_in_tree(alloc: Global, bytes: &[u8], fault: Fault) -> Result<Mistake, 
             });
         }
     };
-    let mut state = State::new(alloc, NameHashing::of(bytes));
+    let mut state = ReaderState::new(alloc, NameHashing::of(bytes));
     match read_parts(alloc, &value, &mut state) {
         // A document with a fault breaks a rule.
         Ok(_) => Ok(Mistake {

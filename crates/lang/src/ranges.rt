@@ -22,7 +22,7 @@ use doc_cuts::next_cut;
 use doc_tokens::ranges::{RangeEnd, pull_first_range, pull_range};
 use doc_tokens::stop::Stop;
 use doc_tree::declared::{Declared, Parts};
-use doc_tree::state::State;
+use doc_tree::state::ReaderState;
 use json::{Reader, Scratch};
 use std::alloc::Global;
 
@@ -46,7 +46,7 @@ fn first_range(
     alloc: Global,
     range: &str,
     scratch: &mut Scratch,
-    state: &mut State,
+    state: &mut ReaderState,
 ) -> Result<(Parts, RangeEnd), Stop>
     requires labels { scope_of state.old.labels.entries ≡ [] }
     ensures begun { IfOk result (λ first. IsBegun (tokens range.now) (left_by first.1)
@@ -67,7 +67,7 @@ fn next_range(
     scratch: &mut Scratch,
     declared: &Declared,
     transactions: &mut Vec<Block>,
-    state: &mut State,
+    state: &mut ReaderState,
 ) -> Result<RangeEnd, Stop>
     requires labels { scope_of state.old.labels.entries ≡ [] }
     ensures begins { IfOk result (λ _. (rest : List Token)
@@ -90,7 +90,7 @@ pub(crate) fn pull_ranges(
     alloc: Global,
     text: &str,
     least: usize,
-    state: &mut State,
+    state: &mut ReaderState,
 ) -> Result<Parts, Stop>
     requires { scope_of state.old.labels.entries ≡ [] }
     ensures { IfOk result (λ parts. (d : Data) × ReadsValue 127 (tokens text.now) d []

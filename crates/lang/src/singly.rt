@@ -29,7 +29,7 @@ use doc_tokens::stop::Stop;
 use doc_tree::declared::{Declared, Parts};
 use doc_tree::labels::leave_block;
 use doc_tree::starts::read_objects;
-use doc_tree::state::State;
+use doc_tree::state::ReaderState;
 use doc_tree::steps::read_step;
 use json::{Reader, Token};
 use meaning::limits::MAX_DEPTH;
@@ -41,7 +41,7 @@ fn one_step(
     alloc: Global,
     reader: &mut Reader<'_>,
     declared: &Declared,
-    state: &mut State,
+    state: &mut ReaderState,
 ) -> Result<Result<Step, Misread>, Stop>
     ensures { IfOk result (λ answer. (d : Data) × ReadsValue 124 reader.old d reader.new
         × MatchResult answer
@@ -71,7 +71,7 @@ fn each_step(
     alloc: Global,
     reader: &mut Reader<'_>,
     declared: &Declared,
-    state: &mut State,
+    state: &mut ReaderState,
 ) -> Result<Result<Block, Misread>, Stop>
     requires { scope_of state.old.labels.entries ≡ [] }
     ensures { IfOk result (λ answer. (ds : Items) × ReadsItems 124 reader.old ds reader.new
@@ -125,7 +125,7 @@ fn one_transaction(
     reader: &mut Reader<'_>,
     number: u32,
     declared: &Declared,
-    state: &mut State,
+    state: &mut ReaderState,
 ) -> Result<Result<Block, Misread>, Stop>
     requires { scope_of state.old.labels.entries ≡ [] }
     ensures { IfOk result (λ answer. (d : Data) × ReadsValue 125 reader.old d reader.new
@@ -155,7 +155,7 @@ fn each_transaction(
     alloc: Global,
     reader: &mut Reader<'_>,
     declared: &Declared,
-    state: &mut State,
+    state: &mut ReaderState,
 ) -> Result<Result<Vec<Block>, Misread>, Stop>
     requires labels { scope_of state.old.labels.entries ≡ [] }
     ensures { IfOk result (λ answer. (ds : Items) × ReadsItems 125 reader.old ds reader.new
@@ -193,7 +193,7 @@ fn each_transaction(
 pub(crate) fn each_part(
     alloc: Global,
     reader: &mut Reader<'_>,
-    state: &mut State,
+    state: &mut ReaderState,
 ) -> Result<Result<Parts, Misread>, Stop>
     requires { scope_of state.old.labels.entries ≡ [] }
     ensures { IfOk result (λ answer. (d : Data) × ReadsValue 127 reader.old d reader.new

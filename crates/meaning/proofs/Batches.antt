@@ -4,14 +4,14 @@ use Rattle.meaning.specs.declared.end.End.TheVariants.{Ended, Aborted}
 use Rattle.objects.specs.Entries.{State, after}
 use Rattle.meaning.specs.Trees.{Block}
 use Rattle.meaning.specs.Records.{Taken, kept, net}
-use Rattle.meaning.specs.OneThread.{Run, Ran, record_of, outcome_of, state_of, one}
+use Rattle.meaning.specs.OneThread.{Execution, Ran, record_of, outcome_of, state_of, one}
 use Rattle.meaning.specs.Batch.{settled, net_of, block_at, state_at, alone, answer, nets, run_nets}
 use Rattle.meaning.specs.Rounds.{Keeps}
 use Rattle.meaning.specs.Laws.{BatchLaw, StandingRunLaw, KeptRunLaw, RunNetsLaw}
 use Rattle.meaning.proofs.Nets.{Leads, lead_on, nets_lead}
 use Rattle.meaning.proofs.Shift.{shift}
 
-settled_leads : (before : State) (run : Run Taken) → Leads before (kept (record_of run)) (state_of run)
+settled_leads : (before : State) (run : Execution Taken) → Leads before (kept (record_of run)) (state_of run)
     → Leads before (net_of run) (settled before run)
 settled_leads before (Ran taken Ended labels state) leads = leads
 settled_leads before (Ran taken (Aborted reason) labels state) leads = (tt, refl)

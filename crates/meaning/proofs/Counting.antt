@@ -13,13 +13,13 @@ use Rattle.meaning.specs.declared.template.Refusal.{Refusal}
 use Rattle.meaning.specs.declared.held.Held.{Held}
 use Rattle.meaning.specs.Records.{Taken, TakenStep, TakenChild, TakenHandler, TakenChildren, entries, entries_of_step, entries_of_child}
 use Rattle.meaning.specs.Records.{entries_of_handler, entries_of_children}
-use Rattle.meaning.specs.OneThread.{Run, Ran, record_of, operate, operate_made, operate_filled, choose, is_for, choose_handler, act}
+use Rattle.meaning.specs.OneThread.{Execution, Ran, record_of, operate, operate_made, operate_filled, choose, is_for, choose_handler, act}
 use Rattle.meaning.specs.OneThread.{go_on, go_on_children, one, one_step}
 use Rattle.meaning.specs.OneThread.{one_handler, one_children}
 use Rattle.meaning.specs.WellFormed.{operations, operations_of_step, operations_of_handlers, operations_of_children}
 use Rattle.meaning.specs.Running.{EntriesCountLaw}
 
-abbrev AtMost : {A : Type 0} → (A → List Entry) → ℕ → Run A → Type 0
+abbrev AtMost : {A : Type 0} → (A → List Entry) → ℕ → Execution A → Type 0
 AtMost entries_in count run = length (entries_in (record_of run)) ≤ count
 
 operation_count : (object : ℕ) (call : Call) (labelled : Bool) (state : State) (reply : Option Reply)
@@ -37,25 +37,25 @@ filled_count : (object : ℕ) (labelled : Bool) (refusal : Refusal) (state : Sta
 filled_count object labelled refusal state None = omega arith
 filled_count object labelled refusal state (Some call) = made_count object call labelled refusal state (reply_at state object call)
 
-choice_count : (test : Bool) (then else : State → Run Taken) (state : State) (m n : ℕ) → AtMost entries m (then state)
+choice_count : (test : Bool) (then else : State → Execution Taken) (state : State) (m n : ℕ) → AtMost entries m (then state)
     → AtMost entries n (else state) → AtMost entries_of_step (m + n) (choose test then else state)
 choice_count true then else state m n h k = omega (arith, h)
 choice_count false then else state m n h k = omega (arith, k)
 
-handler_choice_count : (test : Bool) (handler : State → Run Taken) (others : State → Run TakenHandler) (state : State) (m n : ℕ)
+handler_choice_count : (test : Bool) (handler : State → Execution Taken) (others : State → Execution TakenHandler) (state : State) (m n : ℕ)
     → AtMost entries m (handler state) → AtMost entries_of_handler n (others state) → AtMost entries_of_handler (m + n)
     (choose_handler test handler others state)
 handler_choice_count true handler others state m n h k = omega (arith, h)
 handler_choice_count false handler others state m n h k = omega (arith, k)
 
-act_count : (labelled : Bool) (body : Run Taken) (handlers : Option ℕ → State → Run TakenHandler) (state : State) (m n : ℕ)
+act_count : (labelled : Bool) (body : Execution Taken) (handlers : Option ℕ → State → Execution TakenHandler) (state : State) (m n : ℕ)
     → AtMost entries m body → ((reason : Option ℕ) → AtMost entries_of_handler n (handlers reason state)) → AtMost entries_of_child (m + n)
     (act labelled body handlers state)
 act_count labelled (Ran body Ended labels after_body) handlers state m n h k = omega (arith, h)
 act_count labelled (Ran body (Aborted reason) labels after_body) handlers state m n h k =
     omega (arith, h, k reason, length-append (entries body) (entries_of_handler (record_of (handlers reason state))))
 
-go_on_count : (step : Run TakenStep) (rest : List Held → State → Run Taken) (m n : ℕ) → AtMost entries_of_step m step
+go_on_count : (step : Execution TakenStep) (rest : List Held → State → Execution Taken) (m n : ℕ) → AtMost entries_of_step m step
     → ((labels : List Held) (mid : State) → AtMost entries n (rest labels mid)) → AtMost entries (m + n) (go_on step rest)
 go_on_count (Ran step Ended labels mid) rest m n h k = omega (
   arith,
@@ -66,7 +66,8 @@ go_on_count (Ran step Ended labels mid) rest m n h k = omega (
 )
 go_on_count (Ran step (Aborted reason) labels mid) rest m n h k = omega (arith, h, length-append (entries_of_step step) [])
 
-go_on_children_count : (child : Run TakenChild) (younger : State → Run TakenChildren) (m n : ℕ) → AtMost entries_of_child m child
+go_on_children_count : (child : Execution TakenChild) (younger : State → Execution TakenChildren) (m n : ℕ)
+    → AtMost entries_of_child m child
     → ((mid : State) → AtMost entries_of_children n (younger mid)) → AtMost entries_of_children (m + n) (go_on_children child younger)
 go_on_children_count (Ran child Ended labels mid) younger m n h k =
     omega (arith, h, k mid, length-append (entries_of_child child) (entries_of_children (record_of (younger mid))))

@@ -16,7 +16,7 @@ use Rattle.meaning.specs.declared.template.Template.TheVariants.{Given, OfAmount
 use Rattle.vocabulary.specs.Verbs.{has_item, has_number, verb_of}
 use Rattle.meaning.specs.declared.held.Held.{Held}
 use Rattle.meaning.specs.Records.{Taken, TakenChild, TakenHandler, TakenChildren}
-use Rattle.meaning.specs.OneThread.{Run, Ran, outcome_of, labels_of, label_if, operate, operate_made, operate_filled, choose, act}
+use Rattle.meaning.specs.OneThread.{Execution, Ran, outcome_of, labels_of, label_if, operate, operate_made, operate_filled, choose, act}
 use Rattle.meaning.specs.OneThread.{go_on_children, one, one_handler}
 use Rattle.meaning.specs.OneThread.{one_children}
 use Rattle.meaning.specs.WellFormed.{Label, OfVerb, OfSubaction, label_has, test_fits, ArgumentFits, added_if, added_by_children}
@@ -62,16 +62,16 @@ filled_labels object labelled refusal state labels template (Some call) is ended
     subst (λ v. AreHeldBy (labels_of run) (added_if labelled (OfVerb v))) (filled_law labels template call is).0
     (made_labels object call labelled refusal state (reply_at state object call) refl ended)
 
-choice_labels : (test : Bool) (then else : State → Run Taken) (state : State) → AreHeldBy (labels_of (choose test then else state)) []
+choice_labels : (test : Bool) (then else : State → Execution Taken) (state : State) → AreHeldBy (labels_of (choose test then else state)) []
 choice_labels true then else state = tt
 choice_labels false then else state = tt
 
-act_labels : (labelled : Bool) (body : Run Taken) (handlers : Option ℕ → State → Run TakenHandler) (state : State)
+act_labels : (labelled : Bool) (body : Execution Taken) (handlers : Option ℕ → State → Execution TakenHandler) (state : State)
     → AreHeldBy (labels_of (act labelled body handlers state)) (added_if labelled OfSubaction)
 act_labels labelled (Ran body Ended labels after_body) handlers state = held_if labelled _ _ tt
 act_labels labelled (Ran body (Aborted reason) labels after_body) handlers state = held_if labelled _ _ tt
 
-go_on_labels : (child : Run TakenChild) (younger : State → Run TakenChildren) (added others : List Label)
+go_on_labels : (child : Execution TakenChild) (younger : State → Execution TakenChildren) (added others : List Label)
     → AreHeldBy (labels_of child) added → ((mid : State) → outcome_of (younger mid) ≡ Ended → AreHeldBy (labels_of (younger mid)) others)
     → outcome_of (go_on_children child younger) ≡ Ended → AreHeldBy (labels_of (go_on_children child younger)) (added ++ others)
 go_on_labels (Ran child Ended labels mid) younger added others h k ended = more_labels labels _ added others h (k mid ended)

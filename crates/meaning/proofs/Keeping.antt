@@ -21,7 +21,8 @@ use Rattle.meaning.specs.Filling.{fill}
 use Rattle.meaning.specs.declared.template.Refusal.{Refusal}
 use Rattle.meaning.specs.declared.held.Held.{Held}
 use Rattle.meaning.specs.Records.{Taken, TakenStep, TakenChild, TakenHandler, TakenChildren}
-use Rattle.meaning.specs.OneThread.{Run, Ran, state_of, operate, operate_made, operate_filled, choose, is_for, choose_handler, act, go_on}
+use Rattle.meaning.specs.OneThread.{Execution, Ran, state_of, operate, operate_made, operate_filled, choose, is_for, choose_handler, act}
+use Rattle.meaning.specs.OneThread.{go_on}
 use Rattle.meaning.specs.OneThread.{go_on_children, one, one_step}
 use Rattle.meaning.specs.OneThread.{one_handler, one_children}
 use Rattle.meaning.specs.Batch.{settled, block_at, state_at}
@@ -115,31 +116,32 @@ filled_keeps : (object : ℕ) (labelled : Bool) (refusal : Refusal) (state : Sta
 filled_keeps object labelled refusal state None = keeps_same state 1
 filled_keeps object labelled refusal state (Some call) = made_keeps object call labelled refusal state (reply_at state object call)
 
-choice_keeps : (test : Bool) (then else : State → Run Taken) (state : State) (m n : ℕ) → KeepsKinds m state (state_of (then state))
+choice_keeps : (test : Bool) (then else : State → Execution Taken) (state : State) (m n : ℕ) → KeepsKinds m state (state_of (then state))
     → KeepsKinds n state (state_of (else state)) → KeepsKinds (m + n) state (state_of (choose test then else state))
 choice_keeps true then else state m n h k = keeps_weaker m (m + n) _ _ (omega arith) h
 choice_keeps false then else state m n h k = keeps_weaker n (m + n) _ _ (omega arith) k
 
-handler_choice_keeps : (test : Bool) (handler : State → Run Taken) (others : State → Run TakenHandler) (state : State) (m n : ℕ)
+handler_choice_keeps : (test : Bool) (handler : State → Execution Taken) (others : State → Execution TakenHandler) (state : State) (m n : ℕ)
     → KeepsKinds m state (state_of (handler state)) → KeepsKinds n state (state_of (others state))
     → KeepsKinds (m + n) state (state_of (choose_handler test handler others state))
 handler_choice_keeps true handler others state m n h k = keeps_weaker m (m + n) _ _ (omega arith) h
 handler_choice_keeps false handler others state m n h k = keeps_weaker n (m + n) _ _ (omega arith) k
 
-pub act_keeps : (labelled : Bool) (body : Run Taken) (handlers : Option ℕ → State → Run TakenHandler) (state : State) (m n : ℕ)
+pub act_keeps : (labelled : Bool) (body : Execution Taken) (handlers : Option ℕ → State → Execution TakenHandler) (state : State) (m n : ℕ)
     → KeepsKinds m state (state_of body) → ((reason : Option ℕ) → KeepsKinds n state (state_of (handlers reason state)))
     → KeepsKinds (m + n) state (state_of (act labelled body handlers state))
 act_keeps labelled (Ran body Ended labels after_body) handlers state m n h k = keeps_weaker m (m + n) _ _ (omega arith) h
 act_keeps labelled (Ran body (Aborted reason) labels after_body) handlers state m n h k = keeps_weaker n (m + n) _ _ (omega arith)
     (k reason)
 
-go_on_keeps : (step : Run TakenStep) (rest : List Held → State → Run Taken) (state : State) (m n : ℕ) → KeepsKinds m state (state_of step)
+go_on_keeps : (step : Execution TakenStep) (rest : List Held → State → Execution Taken) (state : State) (m n : ℕ)
+    → KeepsKinds m state (state_of step)
     → ((labels : List Held) (mid : State) → KeepsKinds n mid (state_of (rest labels mid)))
     → KeepsKinds (m + n) state (state_of (go_on step rest))
 go_on_keeps (Ran step Ended labels mid) rest state m n h k = keeps_then m n state mid _ h (k labels mid)
 go_on_keeps (Ran step (Aborted reason) labels mid) rest state m n h k = keeps_weaker m (m + n) _ _ (omega arith) h
 
-go_on_children_keeps : (child : Run TakenChild) (younger : State → Run TakenChildren) (state : State) (m n : ℕ)
+go_on_children_keeps : (child : Execution TakenChild) (younger : State → Execution TakenChildren) (state : State) (m n : ℕ)
     → KeepsKinds m state (state_of child) → ((mid : State) → KeepsKinds n mid (state_of (younger mid)))
     → KeepsKinds (m + n) state (state_of (go_on_children child younger))
 go_on_children_keeps (Ran child Ended labels mid) younger state m n h k = keeps_then m n state mid _ h (k mid)
@@ -190,7 +192,7 @@ entries_keep state (p ∷ ps) =
 
 -- ---- a batch
 
-settled_keeps : (before : State) (run : Run Taken) (count : ℕ) → KeepsKinds count before (state_of run)
+settled_keeps : (before : State) (run : Execution Taken) (count : ℕ) → KeepsKinds count before (state_of run)
     → KeepsKinds count before (settled before run)
 settled_keeps before (Ran taken Ended labels state) count h = h
 settled_keeps before (Ran taken (Aborted reason) labels state) count h = keeps_same before count

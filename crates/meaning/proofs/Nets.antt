@@ -13,7 +13,8 @@ use Rattle.meaning.specs.declared.template.Refusal.{Refusal}
 use Rattle.meaning.specs.declared.held.Held.{Held}
 use Rattle.meaning.specs.Records.{Taken, TakenStep, TakenChild, TakenHandler, TakenChildren, kept, kept_of_step, kept_of_child}
 use Rattle.meaning.specs.Records.{kept_of_handler, kept_of_children}
-use Rattle.meaning.specs.OneThread.{Run, Ran, record_of, state_of, operate, operate_made, operate_filled, choose, is_for, choose_handler}
+use Rattle.meaning.specs.OneThread.{Execution, Ran, record_of, state_of, operate, operate_made, operate_filled, choose, is_for}
+use Rattle.meaning.specs.OneThread.{choose_handler}
 use Rattle.meaning.specs.OneThread.{act, go_on, go_on_children, one}
 use Rattle.meaning.specs.OneThread.{one_step, one_handler, one_children}
 use Rattle.meaning.specs.Laws.{NetLaw, ChildrenNetLaw}
@@ -32,7 +33,7 @@ lead_on from mid to (p ∷ ps) qs first second =
 lead_alone : (from to : State) (ps : List Entry) → Leads from ps to → Leads from (ps ++ []) to
 lead_alone from to ps first = lead_on from to to ps [] first (tt, refl)
 
-abbrev pub LeadsFrom : {A : Type 0} → (A → List Entry) → State → Run A → Type 0
+abbrev pub LeadsFrom : {A : Type 0} → (A → List Entry) → State → Execution A → Type 0
 LeadsFrom kept_in from run = Leads from (kept_in (record_of run)) (state_of run)
 
 operation_leads : (object : ℕ) (call : Call) (labelled : Bool) (state : State) (reply : Option Reply) → reply_at state object call ≡ reply
@@ -51,31 +52,32 @@ filled_leads object labelled refusal state None = (tt, refl)
 filled_leads object labelled refusal state (Some call) =
     made_leads object call labelled refusal state (reply_at state object call) refl
 
-choice_leads : (test : Bool) (then else : State → Run Taken) (state : State) → LeadsFrom kept state (then state)
+choice_leads : (test : Bool) (then else : State → Execution Taken) (state : State) → LeadsFrom kept state (then state)
     → LeadsFrom kept state (else state) → LeadsFrom kept_of_step state (choose test then else state)
 choice_leads true then else state then_leads else_leads = then_leads
 choice_leads false then else state then_leads else_leads = else_leads
 
-handler_choice_leads : (test : Bool) (handler : State → Run Taken) (others : State → Run TakenHandler) (state : State)
+handler_choice_leads : (test : Bool) (handler : State → Execution Taken) (others : State → Execution TakenHandler) (state : State)
     → LeadsFrom kept state (handler state) → LeadsFrom kept_of_handler state (others state) → LeadsFrom kept_of_handler state
     (choose_handler test handler others state)
 handler_choice_leads true handler others state handler_leads others_lead = handler_leads
 handler_choice_leads false handler others state handler_leads others_lead = others_lead
 
-pub act_leads : (labelled : Bool) (body : Run Taken) (handlers : Option ℕ → State → Run TakenHandler) (state : State)
+pub act_leads : (labelled : Bool) (body : Execution Taken) (handlers : Option ℕ → State → Execution TakenHandler) (state : State)
     → LeadsFrom kept state body → ((reason : Option ℕ) → LeadsFrom kept_of_handler state (handlers reason state))
     → LeadsFrom kept_of_child state (act labelled body handlers state)
 act_leads labelled (Ran body Ended labels after_body) handlers state body_leads handlers_lead = body_leads
 act_leads labelled (Ran body (Aborted reason) labels after_body) handlers state body_leads handlers_lead = handlers_lead reason
 
-go_on_leads : (step : Run TakenStep) (rest : List Held → State → Run Taken) (state : State) → LeadsFrom kept_of_step state step
+go_on_leads : (step : Execution TakenStep) (rest : List Held → State → Execution Taken) (state : State) → LeadsFrom kept_of_step state step
     → ((labels : List Held) (mid : State) → LeadsFrom kept mid (rest labels mid)) → LeadsFrom kept state (go_on step rest)
 go_on_leads (Ran step Ended labels mid) rest state step_leads rest_leads =
     lead_on state mid (state_of (rest labels mid)) (kept_of_step step) (kept (record_of (rest labels mid))) step_leads
     (rest_leads labels mid)
 go_on_leads (Ran step (Aborted reason) labels mid) rest state step_leads rest_leads = lead_alone state mid (kept_of_step step) step_leads
 
-go_on_children_leads : (child : Run TakenChild) (younger : State → Run TakenChildren) (state : State) → LeadsFrom kept_of_child state child
+go_on_children_leads : (child : Execution TakenChild) (younger : State → Execution TakenChildren) (state : State)
+    → LeadsFrom kept_of_child state child
     → ((mid : State) → LeadsFrom kept_of_children mid (younger mid)) → LeadsFrom kept_of_children state (go_on_children child younger)
 go_on_children_leads (Ran child Ended labels mid) younger state child_leads younger_leads =
     lead_on state mid (state_of (younger mid)) (kept_of_child child) (kept_of_children (record_of (younger mid))) child_leads

@@ -6,7 +6,8 @@ use Rattle.meaning.specs.declared.held.Held.TheVariants.{Outcome}
 use Rattle.objects.specs.Entries.{State}
 use Rattle.meaning.specs.Trees.{Block, NoStep, Steps, Step, Children, NoChild, Child, Handlers}
 use Rattle.meaning.specs.Records.{Taken, Nothing, Took, TakenStep, TakenChild, Committed, TakenHandler, TakenChildren}
-use Rattle.meaning.specs.OneThread.{Run, Ran, record_of, outcome_of, labels_of, state_of, label_if, go_on, go_on_children, act, after_abort}
+use Rattle.meaning.specs.OneThread.{Execution, Ran, record_of, outcome_of, labels_of, state_of, label_if, go_on, go_on_children, act}
+use Rattle.meaning.specs.OneThread.{after_abort}
 use Rattle.meaning.specs.OneThread.{one, one_step, one_handler, one_children}
 
 pub one-Steps : (step : Step) (rest : Block) (labels : List Held) (state : State) → one (Steps step rest) labels state ≡ go_on
@@ -19,7 +20,7 @@ unfolding one
 one-NoStep labels state = refl
 
 -- a block goes on after a step that ended
-pub go_on-ended : (step : Run TakenStep) (rest : List Held → State → Run Taken) → outcome_of step ≡ Ended
+pub go_on-ended : (step : Execution TakenStep) (rest : List Held → State → Execution Taken) → outcome_of step ≡ Ended
     → (record_of (go_on step rest) ≡ Took (record_of step) (record_of (rest (labels_of step) (state_of step))))
     × (outcome_of (go_on step rest) ≡ outcome_of (rest (labels_of step) (state_of step)))
     × (state_of (go_on step rest) ≡ state_of (rest (labels_of step) (state_of step)))
@@ -27,7 +28,8 @@ go_on-ended (Ran step Ended labels state) rest is = (refl, refl, refl)
 go_on-ended (Ran step (Aborted reason) labels state) rest is = absurd cc
 
 -- and ends with a step that aborted
-pub go_on-aborted : (step : Run TakenStep) (rest : List Held → State → Run Taken) (reason : Option ℕ) → outcome_of step ≡ Aborted reason
+pub go_on-aborted : (step : Execution TakenStep) (rest : List Held → State → Execution Taken) (reason : Option ℕ) → outcome_of step
+    ≡ Aborted reason
     → (record_of (go_on step rest) ≡ Took (record_of step) Nothing) × (outcome_of (go_on step rest) ≡ Aborted reason)
     × (state_of (go_on step rest) ≡ state_of step)
 go_on-aborted (Ran step Ended labels state) rest reason is = absurd cc
@@ -45,18 +47,18 @@ unfolding one
 one_children-Child body handlers labelled younger labels state = refl
 
 -- the parts of a run of children after the first
-pub record GoesOn (child : Run TakenChild) (younger : Run TakenChildren) (all : Run TakenChildren) : Type 0 where
+pub record GoesOn (child : Execution TakenChild) (younger : Execution TakenChildren) (all : Execution TakenChildren) : Type 0 where
   pub taken : record_of all ≡ TakenChildren.Child (record_of child) (record_of younger)
   pub outcome : outcome_of all ≡ outcome_of younger
   pub labels : labels_of all ≡ labels_of child ++ labels_of younger
   pub state : state_of all ≡ state_of younger
 
-pub go_on_children-ended : (child : Run TakenChild) (younger : State → Run TakenChildren) → outcome_of child ≡ Ended
+pub go_on_children-ended : (child : Execution TakenChild) (younger : State → Execution TakenChildren) → outcome_of child ≡ Ended
     → GoesOn child (younger (state_of child)) (go_on_children child younger)
 go_on_children-ended (Ran child Ended labels state) younger is = record { taken = refl; outcome = refl; labels = refl; state = refl }
 go_on_children-ended (Ran child (Aborted reason) labels state) younger is = absurd cc
 
-pub go_on_children-aborted : (child : Run TakenChild) (younger : State → Run TakenChildren) (reason : Option ℕ)
+pub go_on_children-aborted : (child : Execution TakenChild) (younger : State → Execution TakenChildren) (reason : Option ℕ)
     → outcome_of child ≡ Aborted reason
     → (record_of (go_on_children child younger) ≡ TakenChildren.Child (record_of child) TakenChildren.NoChild)
     × (outcome_of (go_on_children child younger) ≡ Aborted reason) × (state_of (go_on_children child younger) ≡ state_of child)
@@ -64,13 +66,14 @@ go_on_children-aborted (Ran child Ended labels state) younger reason is = absurd
 go_on_children-aborted (Ran child (Aborted other) labels state) younger reason is = (refl, is, refl)
 
 -- a subaction whose body ended, and one whose body aborted
-pub act-ended : (labelled : Bool) (body : Run Taken) (handlers : Option ℕ → State → Run TakenHandler) (state : State)
+pub act-ended : (labelled : Bool) (body : Execution Taken) (handlers : Option ℕ → State → Execution TakenHandler) (state : State)
     → outcome_of body ≡ Ended
     → act labelled body handlers state ≡ Ran (Committed (record_of body)) Ended (label_if labelled (Outcome Ended)) (state_of body)
 act-ended labelled (Ran body Ended labels mid) handlers state is = refl
 act-ended labelled (Ran body (Aborted reason) labels mid) handlers state is = absurd cc
 
-pub act-aborted : (labelled : Bool) (body : Run Taken) (handlers : Option ℕ → State → Run TakenHandler) (state : State) (reason : Option ℕ)
+pub act-aborted : (labelled : Bool) (body : Execution Taken) (handlers : Option ℕ → State → Execution TakenHandler) (state : State)
+    (reason : Option ℕ)
     → outcome_of body ≡ Aborted reason
     → act labelled body handlers state ≡ after_abort labelled (record_of body) reason (handlers reason state)
 act-aborted labelled (Ran body Ended labels mid) handlers state reason is = absurd cc

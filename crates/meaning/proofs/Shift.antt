@@ -14,7 +14,8 @@ use Rattle.meaning.specs.declared.held.Held.{Held}
 use Rattle.meaning.specs.declared.held.Held.TheVariants.{Replied}
 use Rattle.meaning.specs.Records.{Taken, TakenStep, Performed, Filled, Acted, InParallel, TakenChild, TakenHandler, TakenChildren, entries}
 use Rattle.meaning.specs.Records.{entries_of_step, entries_of_child, entries_of_handler, entries_of_children}
-use Rattle.meaning.specs.OneThread.{Run, Ran, record_of, outcome_of, state_of, label_if, operate, operate_made, operate_filled, as_branch}
+use Rattle.meaning.specs.OneThread.{Execution, Ran, record_of, outcome_of, state_of, label_if, operate, operate_made, operate_filled}
+use Rattle.meaning.specs.OneThread.{as_branch}
 use Rattle.meaning.specs.OneThread.{choose, as_handler, is_for}
 use Rattle.meaning.specs.OneThread.{choose_handler, after_abort, act, as_step, before_rest, go_on, before_younger, go_on_children, one}
 use Rattle.meaning.specs.OneThread.{one_step, one_handler, one_children}
@@ -24,7 +25,7 @@ use Rattle.meaning.proofs.Misfits.{misfit_after}
 
 module _ (committed : List Entry) where
   -- the second run is the first one, made on the state after the list
-  abbrev Moves : {A : Type 0} → (A → List Entry) → Run A → Run A → Type 0
+  abbrev Moves : {A : Type 0} → (A → List Entry) → Execution A → Execution A → Type 0
   Moves entries_in here there = AllCommute (entries_in (record_of here)) committed → AreLegal (state_of here) committed
       × (there ≡ carried committed here)
 
@@ -62,27 +63,28 @@ module _ (committed : List Entry) where
   filled_moves object labelled refusal state (Some call) legal commute =
       made_moves object call labelled refusal state legal (reply_at state object call) refl commute
 
-  branch_moves : (then : Bool) (here there : Run Taken) → Moves entries here there → Moves entries_of_step (as_branch then here)
+  branch_moves : (then : Bool) (here there : Execution Taken) → Moves entries here there → Moves entries_of_step (as_branch then here)
       (as_branch then there)
   branch_moves then here there moves commute = let moved = moves commute in (moved.0, ap (as_branch then) moved.1)
 
-  choice_moves : (test : Bool) (then else : State → Run Taken) (state : State) → Moves entries (then state) (then (after state committed))
+  choice_moves : (test : Bool) (then else : State → Execution Taken) (state : State)
+      → Moves entries (then state) (then (after state committed))
       → Moves entries (else state) (else (after state committed)) → Moves entries_of_step (choose test then else state)
       (choose test then else (after state committed))
   choice_moves true then else state then_moves else_moves = branch_moves true (then state) (then (after state committed)) then_moves
   choice_moves false then else state then_moves else_moves = branch_moves false (else state) (else (after state committed)) else_moves
 
-  handler_moves : (here there : Run Taken) → Moves entries here there → Moves entries_of_handler (as_handler here) (as_handler there)
+  handler_moves : (here there : Execution Taken) → Moves entries here there → Moves entries_of_handler (as_handler here) (as_handler there)
   handler_moves here there moves commute = let moved = moves commute in (moved.0, ap as_handler moved.1)
 
-  handler_choice_moves : (test : Bool) (handler : State → Run Taken) (others : State → Run TakenHandler) (state : State)
+  handler_choice_moves : (test : Bool) (handler : State → Execution Taken) (others : State → Execution TakenHandler) (state : State)
       → Moves entries (handler state) (handler (after state committed)) → Moves entries_of_handler (others state)
       (others (after state committed)) → Moves entries_of_handler (choose_handler test handler others state)
       (choose_handler test handler others (after state committed))
   handler_choice_moves true handler others state moves others_move = handler_moves (handler state) (handler (after state committed)) moves
   handler_choice_moves false handler others state moves others_move = others_move
 
-  act_moves : (labelled : Bool) (here there : Run Taken) (handlers : Option ℕ → State → Run TakenHandler) (state : State)
+  act_moves : (labelled : Bool) (here there : Execution Taken) (handlers : Option ℕ → State → Execution TakenHandler) (state : State)
       → Moves entries here there
       → ((reason : Option ℕ) → Moves entries_of_handler (handlers reason state) (handlers reason (after state committed)))
       → Moves entries_of_child (act labelled here handlers state) (act labelled there handlers (after state committed))
@@ -97,7 +99,7 @@ module _ (committed : List Entry) where
             ∙ ap (after_abort labelled body reason) handler_moved.1,
       )
 
-  go_on_moves : (here there : Run TakenStep) (rest : List Held → State → Run Taken) → Moves entries_of_step here there
+  go_on_moves : (here there : Execution TakenStep) (rest : List Held → State → Execution Taken) → Moves entries_of_step here there
       → ((labels : List Held) (state : State) → AreLegal state committed → Moves entries (rest labels state)
       (rest labels (after state committed))) → Moves entries (go_on here rest) (go_on there rest)
   go_on_moves (Ran step Ended labels state) there rest step_moves rest_moves commute =
@@ -108,7 +110,7 @@ module _ (committed : List Entry) where
       let step_moved = step_moves (commute_left (entries_of_step step) [] committed commute) in
       (step_moved.0, ap (λ run. go_on run rest) step_moved.1)
 
-  go_on_children_moves : (here there : Run TakenChild) (younger : State → Run TakenChildren) → Moves entries_of_child here there
+  go_on_children_moves : (here there : Execution TakenChild) (younger : State → Execution TakenChildren) → Moves entries_of_child here there
       → ((state : State) → AreLegal state committed → Moves entries_of_children (younger state) (younger (after state committed)))
       → Moves entries_of_children (go_on_children here younger) (go_on_children there younger)
   go_on_children_moves (Ran child Ended labels state) there younger child_moves younger_moves commute =

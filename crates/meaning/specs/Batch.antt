@@ -6,17 +6,17 @@ use Rattle.meaning.specs.declared.end.End.TheVariants.{Ended, Aborted}
 use Rattle.meaning.specs.Trees.{Block, NoStep}
 use Rattle.meaning.specs.Records.{Taken, net}
 use Rattle.meaning.specs.Shown.{Shown, shown}
-use Rattle.meaning.specs.OneThread.{Run, Ran, record_of, outcome_of, one}
+use Rattle.meaning.specs.OneThread.{Execution, Ran, record_of, outcome_of, one}
 
 -- a transaction that aborts leaves the state as it was
-abbrev pub settled : State → Run Taken → State
+abbrev pub settled : State → Execution Taken → State
 settled before (Ran taken Ended labels state) = state
 settled before (Ran taken (Aborted reason) labels state) = before
 
-abbrev pub net_of : Run Taken → List Entry
+abbrev pub net_of : Execution Taken → List Entry
 net_of run = net (record_of run) (outcome_of run)
 
-abbrev pub shown_of : Run Taken → Shown
+abbrev pub shown_of : Execution Taken → Shown
 shown_of run = shown (record_of run) (outcome_of run)
 
 abbrev pub block_at : List Block → ℕ → Block
@@ -30,11 +30,11 @@ module _ (start : State) (batch : List Block) where
   state_at (suc i) = settled (state_at i) (one (block_at batch i) [] (state_at i))
 
   -- transaction i, run on the state after the first b
-  abbrev pub alone : ℕ → ℕ → Run Taken
+  abbrev pub alone : ℕ → ℕ → Execution Taken
   alone i b = one (block_at batch i) [] (state_at b)
 
   -- the one-thread run of transaction i
-  abbrev pub answer : ℕ → Run Taken
+  abbrev pub answer : ℕ → Execution Taken
   answer i = alone i i
 
   -- what the count transactions from number b on leave, one after the other

@@ -6,12 +6,12 @@ use Rattle.objects.specs.Entries.{State, AreLegal, after, AllCommute}
 use Rattle.meaning.specs.Trees.{Block, Children, NoChild, Child}
 use Rattle.meaning.specs.declared.held.Held.{Held}
 use Rattle.meaning.specs.Records.{TakenChildren, entries, entries_of_children, kept, kept_of_children}
-use Rattle.meaning.specs.OneThread.{Run, Ran, record_of, outcome_of, labels_of, state_of, one, one_children}
+use Rattle.meaning.specs.OneThread.{Execution, Ran, record_of, outcome_of, labels_of, state_of, one, one_children}
 use Rattle.meaning.specs.Batch.{state_at, alone, answer, nets, run_nets}
 use Rattle.meaning.specs.Rounds.{Keeps, AllKeep, IsNextOpening, Rounds, Count}
 
 -- a run as it is made on the state after these entries
-abbrev pub carried : {A : Type 0} → List Entry → Run A → Run A
+abbrev pub carried : {A : Type 0} → List Entry → Execution A → Execution A
 carried committed run = Ran (record_of run) (outcome_of run) (labels_of run) (after (state_of run) committed)
 
 -- the children of one list, and then those of another
@@ -24,12 +24,12 @@ both_taken TakenChildren.NoChild younger = younger
 both_taken (TakenChildren.Child child rest) younger = TakenChildren.Child child (both_taken rest younger)
 
 -- the runs of two lists of children as one, the later one made where the earlier one ends
-abbrev pub followed : Run TakenChildren → Run TakenChildren → Run TakenChildren
+abbrev pub followed : Execution TakenChildren → Execution TakenChildren → Execution TakenChildren
 followed older younger = Ran (both_taken (record_of older) (record_of younger)) (outcome_of younger) (labels_of older ++ labels_of younger)
     (state_of younger)
 
 -- the runs of two lists of children as one, both made on the state before the first
-abbrev pub one_after_other : Run TakenChildren → Run TakenChildren → Run TakenChildren
+abbrev pub one_after_other : Execution TakenChildren → Execution TakenChildren → Execution TakenChildren
 one_after_other older younger = followed older (carried (kept_of_children (record_of older)) younger)
 
 -- A block is run on a state in which a list of entries is legal, and each entry of the run, dropped ones too, commutes

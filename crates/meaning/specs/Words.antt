@@ -25,21 +25,21 @@ use Rattle.vocabulary.specs.declared.verb.Verb.TheVariants.{OfAmount, OfItem, Of
 use Rattle.vocabulary.specs.declared.word.Word.TheVariants as word
 
 -- the texts of a batch's numbers
-pub record Names : Type 0 where
+pub record Naming : Type 0 where
   pub object : ℕ → List ℕ
   pub item : Item → List ℕ
   pub reason : ℕ → List ℕ
 
-abbrev pub phrase_text : Names → Phrase → List ℕ
+abbrev pub phrase_text : Naming → Phrase → List ℕ
 phrase_text names (phrase.OfAmount v a) = verb_text (OfAmount v) ++ codes " " ++ decimal a.value
 phrase_text names (phrase.OfItem v x) = verb_text (OfItem v) ++ codes " " ++ names.item x
 phrase_text names (phrase.OfPair v k x) = verb_text (OfPair v) ++ codes " " ++ names.item k ++ codes " " ++ names.item x
 phrase_text names (phrase.Alone v) = verb_text (Alone v)
 
-abbrev pub call_text : Names → Call → List ℕ
+abbrev pub call_text : Naming → Call → List ℕ
 call_text names c = phrase_text names (phrase_of c)
 
-abbrev pub reply_text : Names → Reply → List ℕ
+abbrev pub reply_text : Naming → Reply → List ℕ
 reply_text names (reply.Account account.Ok) = word_text word.Ok
 reply_text names (reply.Account account.No) = word_text word.No
 reply_text names (reply.Account (account.Number n)) = decimal n
@@ -66,14 +66,14 @@ reply_text names (reply.Max max.Ok) = word_text word.Ok
 reply_text names (reply.Max (max.Number n)) = decimal n
 
 -- with this between each two
-abbrev pub joined : List ℕ → List (List ℕ) → List ℕ
-joined between [] = []
-joined between (first ∷ []) = first
-joined between (first ∷ second ∷ rest) = first ++ between ++ joined between (second ∷ rest)
+abbrev pub joined_by : List ℕ → List (List ℕ) → List ℕ
+joined_by between [] = []
+joined_by between (first ∷ []) = first
+joined_by between (first ∷ second ∷ rest) = first ++ between ++ joined_by between (second ∷ rest)
 
 -- with a space between each two
 abbrev pub spaced : List (List ℕ) → List ℕ
-spaced texts = joined (codes " ") texts
+spaced texts = joined_by (codes " ") texts
 
 abbrev pub has_colon : List ℕ → Bool
 has_colon text = list_any (λ x. x == 58) text
@@ -82,7 +82,7 @@ has_colon text = list_any (λ x. x == 58) text
 abbrev pub separator : List ℕ → List ℕ → List ℕ
 separator key item = if has_colon key || has_colon item then codes "=" else codes ":"
 
-abbrev pub binding_text : Names → Item × Item → List ℕ
+abbrev pub binding_text : Naming → Item × Item → List ℕ
 binding_text names binding =
     names.item binding.0 ++ separator (names.item binding.0) (names.item binding.1) ++ names.item binding.1
 
@@ -91,7 +91,7 @@ abbrev pub members : finite_set.FinSet item_cmp → List Item
 members s = finite_map.keys (finite_map.from_entries {X = Unit {0}} {R = item_cmp} (map (λ x. (x, tt)) (finite_set.items s)))
 
 -- members and keys in the order of their numbers
-abbrev pub value_text : Names → Value → List ℕ
+abbrev pub value_text : Naming → Value → List ℕ
 value_text names (value.Account n) = decimal n
 value_text names (value.Counter n) = signed_decimal n
 value_text names (value.Set s) = codes "{" ++ spaced (map names.item (members s)) ++ codes "}"

@@ -6,7 +6,7 @@ use Rattle.objects.specs.declared.entry.Entry.{Entry}
 use Rattle.meaning.specs.declared.end.End.TheVariants.{Ended, Aborted}
 use Rattle.meaning.specs.declared.held.Held.{Held}
 use Rattle.objects.specs.Entries.{State, after}
-use Rattle.meaning.specs.OneThread.{Run, Ran, record_of, outcome_of, state_of, one}
+use Rattle.meaning.specs.OneThread.{Execution, Ran, record_of, outcome_of, state_of, one}
 use Rattle.meaning.specs.Records.{Taken, entries}
 use Rattle.meaning.specs.Trees as meant
 use Rattle.meaning.proofs.Nets.{block_leads}
@@ -43,11 +43,11 @@ call_took before now object call reply is = (
 )
 
 -- once an aborted body is taken back, the objects and the journal are as before it
-pub taken_back : (run : Run Taken) (before mid next : Journaled) (body : Record) (mark : ℕ) → ShowsRun in_place run body before mid
+pub taken_back : (run : Execution Taken) (before mid next : Journaled) (body : Record) (mark : ℕ) → ShowsRun in_place run body before mid
     → mark ≡ length before.journal → next ≡ rewound mid mark → next ≡ before
 taken_back run before mid next body mark shows at is = is ∙ ap (rewound mid) at ∙ rewound-back before mid shows.took.1
 
-pub undone : (run : Run Taken) (before mid next : Journaled) (body : Record) (mark : ℕ) → ShowsRun in_place run body before mid
+pub undone : (run : Execution Taken) (before mid next : Journaled) (body : Record) (mark : ℕ) → ShowsRun in_place run body before mid
     → mark ≡ length before.journal → next ≡ rewound mid mark → IsUndone in_place run body before next
 undone run before mid next body mark shows at is =
     let back = taken_back run before mid next body mark shows at is in
@@ -65,11 +65,11 @@ shows_state block held before now done shows = shows.took.0 ∙ sym (block_leads
 
 -- ---- a transaction at its end
 
-settled-ended : (s : State) (run : Run Taken) → outcome_of run ≡ Ended → settled s run ≡ state_of run
+settled-ended : (s : State) (run : Execution Taken) → outcome_of run ≡ Ended → settled s run ≡ state_of run
 settled-ended s (Ran taken Ended labels state) h = refl
 settled-ended s (Ran taken (Aborted reason) labels state) h = absurd cc
 
-settled-aborted : (s : State) (run : Run Taken) (reason : Option ℕ) → outcome_of run ≡ Aborted reason → settled s run ≡ s
+settled-aborted : (s : State) (run : Execution Taken) (reason : Option ℕ) → outcome_of run ≡ Aborted reason → settled s run ≡ s
 settled-aborted s (Ran taken Ended labels state) reason h = absurd cc
 settled-aborted s (Ran taken (Aborted other) labels state) reason h = refl
 

@@ -5,7 +5,7 @@ ghost use Rattle.faults.specs.Faults.{is_of_reading, memory_fault, wrong_outside
 ghost use Rattle.carry.specs.Joined.{start_view};
 ghost use Rattle.lang.specs.Reading.{document_of, reading};
 ghost use Rattle.ordtx.specs.Answers.{IsCarriedIntoOf, IsCarriedOf, IsCarryFaultOf, IsCarryIntoFaultOf, fault_of, name_at, of_object, refusal_of, unfit_wrong, wrong_start};
-ghost use Rattle.ordtx.specs.Texts.{GivesCarried};
+ghost use Rattle.ordtx.specs.TextSet.{GivesCarried};
 
 use crate::texts::{batch_at_once, free};
 use batch::Batch;
@@ -14,7 +14,7 @@ use carry::{
     first_unfit, join, name_table, start_name,
 };
 use doc_rules::Limits;
-use doc_tree::hashing::{NameHashing, Texts};
+use doc_tree::hashing::{NameHashing, TextSet};
 use faults::{Code, Fault, Wrong};
 use lang::read_at_once;
 use objects::Objects;
@@ -167,9 +167,9 @@ pub(crate) fn carried_into_of<T: Threads + Sync>(
 fn carried_into_batch(
     alloc: Global,
     first: &Batch,
-    first_names: &Texts,
+    first_names: &TextSet,
     next: &Batch,
-    next_names: &Texts,
+    next_names: &TextSet,
     bytes: &[u8],
 ) -> Result<String, Uncarried>
     requires first_named { texts_of first_names.now.keys ≡ first.now.names.objects }

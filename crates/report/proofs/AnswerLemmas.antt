@@ -12,7 +12,7 @@ use Rattle.objects.specs.Objects.{kind_of_value}
 use Rattle.objects.specs.declared.value.Value.{Value}
 use Rattle.meaning.specs.Trees as meant
 use Rattle.meaning.specs.Shown.{Shown, end_of}
-use Rattle.meaning.specs.Words.{Names, value_text}
+use Rattle.meaning.specs.Words.{Naming, value_text}
 use Rattle.vocabulary.specs.Words.{kind_text}
 use Rattle.meaning.specs.declared.end.End.{End}
 use Rattle.meaning.specs.Texts.{line, outcome_text, steps_text, transactions_text, objects_text, plain_text, check_text}
@@ -26,7 +26,7 @@ use Rattle.report.specs.Parts.{first_from, last_cut, lines_from, objects_from, s
 use Rattle.report.specs.Parts.{transactions_from}
 use Rattle.report.proofs.TextLemmas.{end_of-record_view, steps_from-start, steps_from-end}
 
-module _ (names : Names) where
+module _ (names : Naming) where
   -- ---- the lines of a transaction
 
   transaction_text : (n : ℕ) (x : Block) (y : Record) (blocks : List Block) (records : List Record)

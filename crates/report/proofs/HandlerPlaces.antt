@@ -4,7 +4,7 @@ use Rattle.std.specs.Prelude.{codes}
 use Rattle.std.specs.List.{find}
 use Rattle.meaning.specs.Trees as meant
 use Rattle.meaning.specs.Trees.{Handlers, ForReason, NoStep, for_reasons}
-use Rattle.meaning.specs.Words.{Names}
+use Rattle.meaning.specs.Words.{Naming}
 use Rattle.meaning.specs.Texts.{handler_path, handler_block, pick}
 use Rattle.meaning.specs.OneThread.{is_for}
 use Rattle.batch.specs.Views.{block_view, handler_view, otherwise_view, subaction_view}
@@ -15,7 +15,7 @@ use Rattle.batch.specs.declared.tree.Subaction.{Subaction, out-Subaction}
 use Rattle.batch.proofs.ViewLemmas.{handler_view-is, otherwise_view-Run, otherwise_view-GoOn, otherwise_view-Pass, subaction_view-handlers}
 use Rattle.report.specs.Paths.{handler_place}
 
-module _ (names : Names) (path : List ℕ) (reason : Option ℕ) where
+module _ (names : Naming) (path : List ℕ) (reason : Option ℕ) where
   abbrev found_place : Option Handler → Handlers → List ℕ × meant.Block
   found_place None last = handler_place names path reason last
   found_place (Some found) last = (path ++ codes ".h:" ++ names.reason found.reason, block_view found.block)

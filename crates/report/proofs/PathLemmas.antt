@@ -9,7 +9,7 @@ use Rattle.std.specs.String.Boundary.{IsSplitPoint}
 use Rattle.std.specs.declared.string.String.{String}
 use Rattle.meaning.specs.OneThread.{is_for}
 use Rattle.meaning.specs.Trees.{Handlers, ForReason, Otherwise, GoOn, Pass}
-use Rattle.meaning.specs.Words.{Names}
+use Rattle.meaning.specs.Words.{Naming}
 use Rattle.meaning.specs.Texts.{handler_path, pick}
 
 -- a text that begins with another one, of which n is the length
@@ -36,7 +36,7 @@ module _ {Z : Type 0} (before now : String Z) (more : List ℕ) (n : ℕ) (at : 
       (boundary.0, λ _. boundary.1)
 
 -- the path of what takes an abort begins with that of the subaction
-module _ (names : Names) (path : List ℕ) where
+module _ (names : Naming) (path : List ℕ) where
   -- of two texts that begin with the path
   pick-after : (takes : Bool) (first first_more others others_more : List ℕ) → first ≡ path ++ first_more → others ≡ path ++ others_more
       → pick takes first others ≡ path ++ pick takes first_more others_more

@@ -8,7 +8,7 @@ use Rattle.meaning.specs.declared.end.End.{End}
 use Rattle.meaning.specs.Trees as meant
 use Rattle.meaning.specs.Trees.{NoStep, NoChild}
 use Rattle.meaning.specs.Shown.{Shown, AtEnd, First, ShownStep, ShownChildren, end_of}
-use Rattle.meaning.specs.Words.{Names}
+use Rattle.meaning.specs.Words.{Naming}
 use Rattle.meaning.specs.Texts.{line, outcome_text, reason_of, steps_text, step_text, child_text, children_text, handler_path}
 use Rattle.meaning.specs.Texts.{handler_block, part}
 use Rattle.batch.specs.Views.{block_view, step_view, steps_view, subaction_view, children_view, taken_view, record_view, before_end}
@@ -29,7 +29,7 @@ end_of-before_end (step ∷ steps) outcome = end_of-before_end steps outcome
 pub end_of-record_view : (done : Record) → end_of (record_view done) ≡ done.outcome
 end_of-record_view done = ap end_of (record_view-is done) ∙ end_of-before_end (map taken_view done.taken.items) done.outcome
 
-module _ (names : Names) (path : List ℕ) where
+module _ (names : Naming) (path : List ℕ) where
   -- no step, no line
   pub no_text : (n : ℕ) (done : Shown) → steps_text names path n NoStep done ≡ []
   no_text n (AtEnd outcome) = refl
@@ -138,7 +138,7 @@ pub after_two : (out mid new first second : List ℕ) → mid ≡ out ++ first �
 after_two out mid new first second e f = f ∙ ap (λ x. x ++ second) e ∙ append_assoc out first second
 
 -- the lines of a subaction
-module _ (names : Names) (path : List ℕ) (child : Subaction) (body : Record) where
+module _ (names : Naming) (path : List ℕ) (child : Subaction) (body : Record) where
   abbrev pub body_lines : List ℕ
   body_lines = line (codes "S " ++ path ++ outcome_text names body.outcome) ++ steps_text names (path ++ codes ".b") 1
       (block_view (out-Subaction child).body) (record_view body)

@@ -9,7 +9,7 @@ use Rattle.objects.specs.declared.entry.Entry.{Entry}
 use Rattle.rounds.specs.Workspaces.{IsReadyOn}
 use Rattle.rounds.specs.declared.workspace.Workspace.{Workspace}
 use Rattle.meaning.specs.Records.{Taken, entries as entries_in}
-use Rattle.meaning.specs.OneThread.{Run as OneRun, record_of}
+use Rattle.meaning.specs.OneThread.{Execution, record_of}
 use Rattle.intentions.specs.declared.view.NetList.{NetList}
 use Rattle.speculate.specs.Runs.{IsListedRunOf}
 use Rattle.speculate.specs.declared.speculated.Run.{Run}
@@ -102,7 +102,7 @@ all_front P (x ∷ xs) y all =
     (front P x xs (all 0 x (omega arith)) rest.0, rest.1)
 
 -- a pending run of a run of a meaning, whose net is listed there
-pub pending_of : (listed : NetList) (meant : OneRun Taken) (run : Run) (pending : PendingRun) → IsListedRunOf listed meant run
+pub pending_of : (listed : NetList) (meant : Execution Taken) (run : Run) (pending : PendingRun) → IsListedRunOf listed meant run
     → pending.tree ≡ run.tree → (IsListed pending.net → listed_net pending ≡ net_of_run listed run)
     → AreSumsOf pending.sums run.entries.items (net_of_run listed run) → AreIn pending.span (net_of_run listed run)
     → IsPendingOf meant pending

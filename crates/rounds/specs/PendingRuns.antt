@@ -6,7 +6,7 @@ use Rattle.std.specs.declared.vec.Vec.{Vec}
 use Rattle.std.specs.declared.alloc.Global.{Global}
 use Rattle.objects.specs.Entries.{State, AllCommute}
 use Rattle.meaning.specs.Records.{Taken, entries}
-use Rattle.meaning.specs.OneThread.{Run as OneRun, record_of}
+use Rattle.meaning.specs.OneThread.{Execution, record_of}
 use Rattle.meaning.specs.Batch.{net_of, shown_of, block_at}
 use Rattle.claims.specs.Views.{times}
 use Rattle.committed.specs.Summaries.{entries_of, IsSummary}
@@ -65,13 +65,13 @@ pub record AreSumsOf (sums : Sums) (entries net : List Entry) : Type 0 where
   pub net_is : IsSummary (left_by sums) net
 
 -- what a round commits of a run of a meaning: its record, its net and the span of it
-pub record IsCommittable (meant : OneRun Taken) (run : PendingRun) : Type 0 where
+pub record IsCommittable (meant : Execution Taken) (run : PendingRun) : Type 0 where
   pub tree : record_view run.tree ≡ shown_of meant
   pub net : IsListed run.net → listed_net run ≡ net_of meant
   pub span : AreIn run.span (net_of meant)
 
 -- a pending run of a meaning: it can be committed, and has summaries of its entries and its net
-pub record IsPendingOf (meant : OneRun Taken) (run : PendingRun) : Type 0 where
+pub record IsPendingOf (meant : Execution Taken) (run : PendingRun) : Type 0 where
   pub committable : IsCommittable meant run
   pub sums : AreSumsOf run.sums (entries (record_of meant)) (net_of meant)
 

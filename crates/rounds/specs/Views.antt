@@ -2,7 +2,7 @@
 use Rattle.std.specs.Prelude.{ℕ, List, [], map}
 use Rattle.objects.specs.Entries.{State}
 use Rattle.meaning.specs.Records.{Taken}
-use Rattle.meaning.specs.OneThread.{Run, one}
+use Rattle.meaning.specs.OneThread.{Execution, one}
 use Rattle.meaning.specs.Batch.{block_at, state_at}
 use Rattle.meaning.specs.Trees as meant
 pub use Rattle.batch.specs.Parts.{start_of, blocks_of}
@@ -11,7 +11,7 @@ use Rattle.batch.specs.declared.batch.Batch.{Batch}
 use Rattle.batch.specs.declared.tree.Block.{Block}
 
 -- what one thread does with a transaction on a state
-abbrev pub meaning : Batch → ℕ → State → Run Taken
+abbrev pub meaning : Batch → ℕ → State → Execution Taken
 meaning batch number state = one (block_at (blocks_of batch) number) [] state
 
 -- blocks as the meaning sees them

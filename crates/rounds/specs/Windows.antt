@@ -7,7 +7,7 @@ use Rattle.objects.specs.Entries.{State}
 use Rattle.objects.specs.declared.entry.Entry.{Entry}
 use Rattle.objects.specs.Entries.{AllCommute}
 use Rattle.meaning.specs.Records.{Taken, entries}
-use Rattle.meaning.specs.OneThread.{Run as OneRun, record_of}
+use Rattle.meaning.specs.OneThread.{Execution, record_of}
 use Rattle.meaning.specs.Batch.{state_at, alone, answer, nets, shown_from}
 use Rattle.meaning.specs.Rounds.{Keeps, AllKeep, IsNextOpening, RoundsFrom, Rounds, CountFrom, Count}
 use Rattle.claims.specs.Views.{times}
@@ -125,7 +125,8 @@ pub record IsFreedAt (number : ℕ) (old new : Window) : Type 0 where
   pub valid : new.valid ≡ old.valid
   pub runs : length new.runs.items ≡ length old.runs.items
   pub others : (i : ℕ) (d : PendingRun) → old.first ≤ i → i ≢ number → run_at new i d ≡ run_at old i d
-  pub here : (meant : OneRun Taken) (d : PendingRun) → IsCommittable meant (run_at old number d) → IsCommittable meant (run_at new number d)
+  pub here : (meant : Execution Taken) (d : PendingRun) → IsCommittable meant (run_at old number d)
+      → IsCommittable meant (run_at new number d)
 
 -- where the flag of a number is set, counted from one number on, the run passes this list
 abbrev pub ArePassing : List Entry → ℕ → Window → List Bool → Type 0

@@ -4,7 +4,7 @@ ghost use Rattle.committed.specs.Spans.{AreIn};
 ghost use Rattle.committed.specs.Summaries.{entries_of};
 ghost use Rattle.committed.specs.declared.summary.TheConstants.{FEW_ENTRIES};
 ghost use Rattle.meaning.specs.Records.{Taken};
-ghost use Rattle.meaning.specs.OneThread.{Run as OneRun};
+ghost use Rattle.meaning.specs.OneThread.{Execution};
 ghost use Rattle.rounds.specs.PendingRuns.{left_by, listed_net, net_of_run, IsListed, AreSumsOf, IsCommittable};
 
 use batch::Record;
@@ -176,7 +176,7 @@ impl PendingRun {
 
     /// Frees the summaries, unless the net is in them. The rest can still be committed.
     pub(crate) fn free_sums(&mut self, alloc: Global)
-        ensures { (meant : OneRun Taken) → IsCommittable meant self.old → IsCommittable meant self.new }
+        ensures { (meant : Execution Taken) → IsCommittable meant self.old → IsCommittable meant self.new }
     {
         if !matches!(self.net, Net::Summed) {
             self.sums = Sums::empty(alloc);

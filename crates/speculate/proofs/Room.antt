@@ -13,7 +13,7 @@ use Rattle.meaning.specs.Records.{Taken, Nothing, Took, TakenStep, Performed, Fi
 use Rattle.meaning.specs.Records.{Undone, TakenHandler, NoHandler, Handled, TakenChildren, NoChild, Child, entries, entries_of_step}
 use Rattle.meaning.specs.Records.{entries_of_child, entries_of_handler, entries_of_children, kept, kept_of_step, kept_of_child}
 use Rattle.meaning.specs.Records.{kept_of_handler, kept_of_children, net}
-use Rattle.meaning.specs.OneThread.{Run, Ran, record_of, outcome_of, act, one, one_handler}
+use Rattle.meaning.specs.OneThread.{Execution, Ran, record_of, outcome_of, act, one, one_handler}
 use Rattle.meaning.specs.Batch.{block_at, state_at, answer, nets, net_of}
 use Rattle.meaning.specs.WellFormed.{CallFits, operations, operations_of_handlers, StateHasRoom}
 use Rattle.meaning.specs.Running.{all_operations}
@@ -97,7 +97,7 @@ net-le taken (Aborted reason) = omega arith
 
 -- ---- what a child leaves is its body's or its handler's
 
-act_has_room : (labelled : Bool) (body : Run Taken) (handlers : Option ℕ → State → Run TakenHandler) (state : State) (m n : ℕ)
+act_has_room : (labelled : Bool) (body : Execution Taken) (handlers : Option ℕ → State → Execution TakenHandler) (state : State) (m n : ℕ)
     → StateHasRoom state m → StateHasRoom state n → length (entries (record_of body)) ≤ m
     → ((reason : Option ℕ) → length (entries_of_handler (record_of (handlers reason state))) ≤ n)
     → AreLegal state (kept_of_child (record_of (act labelled body handlers state)))

@@ -17,7 +17,7 @@ use Rattle.objects.specs.Entries.{State, AreLegal, after, AllCommute}
 use Rattle.meaning.specs.Trees.{Children, NoChild, Child}
 use Rattle.meaning.specs.Records.{TakenChild, TakenChildren, entries_of_child, entries_of_children, kept_of_child}
 use Rattle.meaning.specs.Shown.{shown_child}
-use Rattle.meaning.specs.OneThread.{Run, Ran, record_of, outcome_of, labels_of, go_on_children, one, one_children}
+use Rattle.meaning.specs.OneThread.{Execution, Ran, record_of, outcome_of, labels_of, go_on_children, one, one_children}
 use Rattle.meaning.specs.Laws.{carried}
 use Rattle.meaning.proofs.Nets.{lead_on}
 use Rattle.meaning.proofs.Parts.{one_children-Child}
@@ -42,12 +42,12 @@ use Rattle.speculate.proofs.Room.{child_has_room}
 -- ---- a child past what its earlier siblings left
 
 -- the run of a child is known from that of the child alone
-record IsAlone (run : Run TakenChild) (all : Run TakenChildren) : Type 0 where
+record IsAlone (run : Execution TakenChild) (all : Execution TakenChildren) : Type 0 where
   taken : record_of all ≡ TakenChildren.Child (record_of run) TakenChildren.NoChild
   outcome : outcome_of all ≡ outcome_of run
   labels : outcome_of run ≡ Ended → labels_of all ≡ labels_of run
 
-go_on-alone : (run : Run TakenChild) (held : List Held) → IsAlone run (go_on_children run (one_children NoChild held))
+go_on-alone : (run : Execution TakenChild) (held : List Held) → IsAlone run (go_on_children run (one_children NoChild held))
 unfolding one
 go_on-alone (Ran child Ended labels state) held = record { taken = refl; outcome = refl; labels = λ _. append-nil labels }
 go_on-alone (Ran child (Aborted reason) labels state) held = record { taken = refl; outcome = refl; labels = λ ended. absurd cc }
@@ -65,7 +65,7 @@ same_first : (child other : TakenChild) → TakenChildren.Child child TakenChild
 same_first child other same = cc
 
 -- the second run is the first one, made elsewhere
-record IsSameRun (here there : Run TakenChild) : Type 0 where
+record IsSameRun (here there : Execution TakenChild) : Type 0 where
   taken : record_of there ≡ record_of here
   outcome : outcome_of there ≡ outcome_of here
   labels : outcome_of here ≡ Ended → labels_of there ≡ labels_of here

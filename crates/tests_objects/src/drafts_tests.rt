@@ -1,5 +1,5 @@
 //! Tests of drafts.
-use drafts::{Draft, Shown};
+use drafts::{Draft, ShownValue};
 use objects::{
     Amount, Call, CounterCall, CounterReply, Directory, DirectoryCall, DirectoryReply, Item,
     ItemSet, Queue, QueueCall, QueueReply, Reply, SetCall, SetReply, Value,
@@ -39,14 +39,17 @@ fn reply_for_good(rt: &impl Abort, draft: &mut Draft<'_>, call: &Call) -> Reply 
 /// Stops the test where a look at the value, and at a draft of it, has another reply.
 fn value_shows(rt: &impl Abort, alloc: Global, value: &Value, call: &Call, reply: Reply) {
     assert_eq!(rt; Draft::of(alloc, value).look(call), Some(reply));
-    assert_eq!(rt; Shown::Lent(value).look(alloc, call), Some(reply));
+    assert_eq!(rt; ShownValue::Lent(value).look(alloc, call), Some(reply));
 }
 
 /// Stops the test where a look at the whole value of the draft has another reply.
 fn whole_shows(rt: &impl Abort, alloc: Global, draft: &Draft<'_>, call: &Call, reply: Reply) {
     let whole = draft.whole(alloc).ok().expect(rt, "memory");
     value_shows(rt, alloc, &whole, call, reply);
-    let whole = Shown::Changed(draft).whole(alloc).ok().expect(rt, "memory");
+    let whole = ShownValue::Changed(draft)
+        .whole(alloc)
+        .ok()
+        .expect(rt, "memory");
     value_shows(rt, alloc, &whole, call, reply);
 }
 
@@ -219,6 +222,6 @@ fn a_settled_item_stays(rt: HostRuntime) {
 fn what_is_shown_fits_and_has_room(rt: HostRuntime) {
     let lent = Value::Counter(5);
     let read = Call::Counter(CounterCall::Read);
-    let shown = Shown::Lent(&lent);
+    let shown = ShownValue::Lent(&lent);
     assert!(rt; shown.fits(&read) && shown.has_room(&read));
 }

@@ -1,6 +1,6 @@
 use Rattle.std.proofs.Common.{[], ◌∷◌, ◌++◌, map, ap, refl, sym, ◌∙◌, string_bytes}
 use Rattle.std.specs.Prelude.{codes}
-use Rattle.meaning.specs.Words.{joined, members}
+use Rattle.meaning.specs.Words.{joined_by, members}
 use Rattle.batch.specs.Names.{names_of}
 use Rattle.report.proofs.SortedLemmas.{members-sorted}
 use Rattle.carry.specs.Carried.{item_text}
@@ -14,7 +14,7 @@ loop-member-init c =
       ([], (refl, refl)),
       ap (λ text. string_bytes c.args.out.now ++ text)
           (joined_behind-nothing (codes ", ") (map (item_text (names_of c.args.names.now)) (c.into_iter-member-iterator.result))
-          ∙ ap (λ xs. joined (codes ", ") (map (item_text (names_of c.args.names.now)) xs)) same),
+          ∙ ap (λ xs. joined_by (codes ", ") (map (item_text (names_of c.args.names.now)) xs)) same),
     )
 
 pub loop-member-preserved : goal.loop-member-preserved

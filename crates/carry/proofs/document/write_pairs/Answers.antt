@@ -1,7 +1,7 @@
 use Rattle.std.proofs.Common.{[], ◌∷◌, ◌++◌, map, ap, refl, sym, ◌∙◌, string_bytes}
 use Rattle.std.specs.FinMap as finite_map
 use Rattle.std.specs.Prelude.{codes}
-use Rattle.meaning.specs.Words.{joined}
+use Rattle.meaning.specs.Words.{joined_by}
 use Rattle.batch.specs.Names.{names_of}
 use Rattle.atoms.specs.Item.{item_cmp}
 use Rattle.atoms.specs.declared.item.Item.{Item}
@@ -20,7 +20,7 @@ loop-key-init c =
       ([], (refl, refl)),
       ap (λ text. string_bytes c.args.out.now ++ text)
           (joined_behind-nothing (codes ", ") (map (pair_text (names_of c.args.names.now)) (c.into_iter-key-iterator.result))
-          ∙ ap (λ xs. joined (codes ", ") (map (pair_text (names_of c.args.names.now)) xs)) same),
+          ∙ ap (λ xs. joined_by (codes ", ") (map (pair_text (names_of c.args.names.now)) xs)) same),
     )
 
 pub loop-key-preserved : goal.loop-key-preserved

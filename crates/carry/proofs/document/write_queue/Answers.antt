@@ -1,7 +1,7 @@
 use Rattle.std.proofs.Common.{[], ◌∷◌, ◌++◌, map, ap, refl, ◌∙◌, string_bytes}
 use Rattle.std.specs.Prelude.{codes}
 use Rattle.std.specs.VecDeque.Iter.{deque_iter_rest}
-use Rattle.meaning.specs.Words.{joined}
+use Rattle.meaning.specs.Words.{joined_by}
 use Rattle.batch.specs.Names.{names_of}
 use Rattle.carry.specs.Carried.{item_text}
 use Rattle.report.proofs.Joined.{joined_behind-nothing, next_text}
@@ -14,7 +14,7 @@ loop-item-init c =
       ap (λ text. string_bytes c.args.out.now ++ text)
           (joined_behind-nothing (codes ", ")
           (map (item_text (names_of c.args.names.now)) (deque_iter_rest c.into_iter-item-iterator.result))
-          ∙ ap (λ xs. joined (codes ", ") (map (item_text (names_of c.args.names.now)) xs)) same),
+          ∙ ap (λ xs. joined_by (codes ", ") (map (item_text (names_of c.args.names.now)) xs)) same),
     )
 
 pub loop-item-preserved : goal.loop-item-preserved
