@@ -1,16 +1,12 @@
 //! The loop of openings. Each round makes runs as far as it comes, up to the first that conflicts. It
 //! commits those before it, and keeps of the others those that are still valid.
-ghost use Rattle.std.specs.Prelude.{◌≡◌, ◌+◌, ◌<◌, ◌≤◌, ℕ, [], length, IfOk, OnOk, map, slice_index_or};
-ghost use Rattle.objects.specs.Entries.{after};
-ghost use Rattle.meaning.specs.Batch.{all_shown, final_state, nets};
-ghost use Rattle.meaning.specs.Rounds.{Rounds};
-ghost use Rattle.batch.specs.Views.{record_view};
+ghost use Rattle.std.specs.Prelude.{◌≡◌, ◌+◌, ◌<◌, ◌≤◌, ℕ, [], length, IfOk, OnOk, slice_index_or};
 ghost use Rattle.batch.specs.declared.batch.Batch.{Batch as OneBatch};
 ghost use Rattle.claims.specs.Views.{times};
-ghost use Rattle.rounds.specs.Views.{start_of, blocks_of};
 ghost use Rattle.rounds.specs.Openings.{AreCounts};
+ghost use Rattle.rounds.specs.Outcomes.{IsOutcomeOf};
 ghost use Rattle.rounds.specs.Windows.{IsOpening, IsRound, AreCountsOn, AllPending};
-ghost use Rattle.meaning.specs.declared.limits.TheConstants.{MAX_OBJECTS, MAX_TRANSACTIONS};
+ghost use Rattle.meaning.specs.declared.limits.TheConstants.{MAX_TRANSACTIONS};
 
 use crate::committing::commit;
 use crate::job::Job;
@@ -188,18 +184,9 @@ pub fn execute<R: Threads + Sync, G: Gate>(
     plan: Plan,
     gate: &G,
 ) -> Result<Outcome, NoMemory>
-    // Each transaction's replies, branches and outcomes are those of one thread.
-    ensures records { IfOk result (λ o. map record_view o.records.items ≡ all_shown (start_of batch.now) (blocks_of batch.now)) }
-    // So are the objects at the end.
-    ensures objects { IfOk result (λ o. o.objects ≡ final_state (start_of batch.now) (blocks_of batch.now)) }
-    // They are no more than a document may have.
-    ensures few_objects { IfOk result (λ o. length o.objects ≤ MAX_OBJECTS) }
-    // They are what the transactions leave, without anything that was aborted.
-    ensures net { IfOk result (λ o. o.objects ≡ after (start_of batch.now) (nets (start_of batch.now) (blocks_of batch.now) 0 (length (blocks_of batch.now)))) }
-    // The number of rounds is the defined one, and at most the number of transactions.
-    ensures rounds { IfOk result (λ o. Rounds (start_of batch.now) (blocks_of batch.now) o.rounds) }
-    ensures few { IfOk result (λ o. o.rounds ≤ length (blocks_of batch.now)) }
-    // So is how often each transaction was run.
+    // It is what one thread does, in the defined number of rounds.
+    ensures answer { IfOk result (IsOutcomeOf batch.now) }
+    // How often each transaction was run is as defined.
     ensures runs { IfOk result (λ o. AreCounts batch.now o.runs.items) }
 {
     let job = Job::of(threads, alloc, batch, plan, gate);
@@ -223,12 +210,7 @@ pub fn execute_ahead<R: Threads + Sync, G: Gate>(
     plan: Plan,
     gate: &G,
 ) -> Result<Outcome, NoMemory>
-    ensures records { IfOk result (λ o. map record_view o.records.items ≡ all_shown (start_of batch.now) (blocks_of batch.now)) }
-    ensures objects { IfOk result (λ o. o.objects ≡ final_state (start_of batch.now) (blocks_of batch.now)) }
-    ensures few_objects { IfOk result (λ o. length o.objects ≤ MAX_OBJECTS) }
-    ensures net { IfOk result (λ o. o.objects ≡ after (start_of batch.now) (nets (start_of batch.now) (blocks_of batch.now) 0 (length (blocks_of batch.now)))) }
-    ensures rounds { IfOk result (λ o. Rounds (start_of batch.now) (blocks_of batch.now) o.rounds) }
-    ensures few { IfOk result (λ o. o.rounds ≤ length (blocks_of batch.now)) }
+    ensures { IfOk result (IsOutcomeOf batch.now) }
 {
     let job = Job::of(threads, alloc, batch, plan, gate);
     let mut at = begin(alloc, batch, plan)?;

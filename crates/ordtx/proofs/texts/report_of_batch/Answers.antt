@@ -27,12 +27,12 @@ returns-then-audit g c bytes reads =
       document = document_of given;
       reads = reads;
       rounds = rounds;
-      counted = c.in_ok-outcome.ensures.rounds;
-      few = c.in_ok-outcome.ensures.few;
+      counted = c.in_ok-outcome.ensures.answer.rounds;
+      few = c.in_ok-outcome.ensures.answer.few;
       counts = counts;
       all = c.in_ok-outcome.ensures.runs.all;
       each = c.in_ok-outcome.ensures.runs.each;
-      is = c.in_ok-parts.ensures ∙ ap₂ of_parts c.in_ok-outcome.ensures.records c.in_ok-outcome.ensures.objects;
+      is = c.in_ok-parts.ensures ∙ ap₂ of_parts c.in_ok-outcome.ensures.answer.records c.in_ok-outcome.ensures.answer.objects;
     })
 
 pub returns : goal.returns

@@ -1,12 +1,10 @@
-use Rattle.std.proofs.Common.{◌≡◌, ◌≤◌, ◌+◌, ◌-◌, ℕ, false, map, length, get_or, ap, sym, ◌∙◌, subst, arith}
+use Rattle.std.proofs.Common.{◌≡◌, ◌≤◌, ◌+◌, ◌-◌, ℕ, false, length, get_or, ap, sym, subst, arith}
 use Rattle.std.proofs.lemmas.List.{length-map}
 use Rattle.std.specs.declared.vec.Vec.{Vec}
 use Rattle.std.specs.declared.alloc.Global.{Global}
-use Rattle.meaning.specs.declared.limits.TheConstants.{MAX_OBJECTS}
-use Rattle.meaning.specs.Rounds.{Rounds}
-use Rattle.rounds.specs.Views.{start_of, blocks_of}
-use Rattle.batch.specs.Views.{block_view, record_view}
-use Rattle.rounds.proofs.Ends.{end_shown, end_rounds, end_state, end_few, end_nets, end_counts}
+use Rattle.rounds.specs.Views.{blocks_of}
+use Rattle.batch.specs.Views.{block_view}
+use Rattle.rounds.proofs.Ends.{end_counts, is_outcome}
 use Rattle.rounds.specs.Openings.{AreCounts}
 use Rattle.rounds.specs.Windows.{IsOpening, AreCountsAt, AreCountsOn}
 use Rattle.rounds.proofs.Counts.{none_counted, round_counted}
@@ -49,58 +47,15 @@ opening-smaller g c =
     let on = c.in_ok-round.ensures.round.on in
     omega arith
 
-pub returns-clause-records : goal.returns-clause-records
-returns-clause-records g c =
+pub returns-clause-answer : goal.returns-clause-answer
+returns-clause-answer g c =
     let batch = c.args.batch.now in
     let blocks : length (blocks_of batch) ≡ length batch.transactions.items = length-map batch.transactions.items block_view in
     let over = c.opening-test.false in
     let count = c.len-in-opening.ensures in
     let done : length (blocks_of batch) ≤ c.opening.at.committed = omega arith in
-    ap (λ rs. map record_view rs.items) c.outcome_of.ensures.records ∙ end_shown batch c.opening.at c.opening.invariant.at done
-
-pub returns-clause-few_objects : goal.returns-clause-few_objects
-returns-clause-few_objects g c =
-    let batch = c.args.batch.now in
-    let blocks : length (blocks_of batch) ≡ length batch.transactions.items = length-map batch.transactions.items block_view in
-    let over = c.opening-test.false in
-    let count = c.len-in-opening.ensures in
-    let done : length (blocks_of batch) ≤ c.opening.at.committed = omega arith in
-    subst (λ s. length s ≤ MAX_OBJECTS) (sym c.outcome_of.ensures.objects) (end_few batch c.opening.at c.opening.invariant.at done)
-
-pub returns-clause-objects : goal.returns-clause-objects
-returns-clause-objects g c =
-    let batch = c.args.batch.now in
-    let blocks : length (blocks_of batch) ≡ length batch.transactions.items = length-map batch.transactions.items block_view in
-    let over = c.opening-test.false in
-    let count = c.len-in-opening.ensures in
-    let done : length (blocks_of batch) ≤ c.opening.at.committed = omega arith in
-    c.outcome_of.ensures.objects ∙ end_state batch c.opening.at c.opening.invariant.at done
-
-pub returns-clause-net : goal.returns-clause-net
-returns-clause-net g c =
-    let batch = c.args.batch.now in
-    let blocks : length (blocks_of batch) ≡ length batch.transactions.items = length-map batch.transactions.items block_view in
-    let over = c.opening-test.false in
-    let count = c.len-in-opening.ensures in
-    let done : length (blocks_of batch) ≤ c.opening.at.committed = omega arith in
-    c.outcome_of.ensures.objects ∙ end_nets batch c.opening.at c.opening.invariant.at done
-
-pub returns-clause-rounds : goal.returns-clause-rounds
-returns-clause-rounds g c =
-    let batch = c.args.batch.now in
-    let blocks : length (blocks_of batch) ≡ length batch.transactions.items = length-map batch.transactions.items block_view in
-    let over = c.opening-test.false in
-    let count = c.len-in-opening.ensures in
-    let done : length (blocks_of batch) ≤ c.opening.at.committed = omega arith in
-    subst (Rounds (start_of batch) (blocks_of batch)) (sym c.outcome_of.ensures.rounds)
-    (end_rounds batch c.opening.at c.opening.invariant.at done)
-
-pub returns-clause-few : goal.returns-clause-few
-returns-clause-few g c =
-    let few = c.opening.invariant.at.few_rounds in
-    let within = c.opening.invariant.at.within in
-    let same = c.outcome_of.ensures.rounds in
-    omega arith
+    is_outcome batch c.opening.at c.opening.invariant.at done c.outcome_of.result c.outcome_of.ensures.records
+    c.outcome_of.ensures.objects c.outcome_of.ensures.rounds
 
 pub returns-clause-runs : goal.returns-clause-runs
 returns-clause-runs g c =
