@@ -1,4 +1,4 @@
--- Naming, and the texts of a batch's numbers: of each object, item and reason by its number.
+-- Names, and the texts of a batch's numbers: of each object, item and reason by its number.
 use Rattle.std.specs.Prelude.{ℕ, ◌&&◌, ◌||◌, ◌==◌, Bool, IsTrue, List, [], length, map, nat_lt, nat_le, slice_index_or, string_bytes}
 use Rattle.std.specs.Prelude.{String, if◌then◌else◌}
 use Rattle.std.specs.List.{list_all}

@@ -101,7 +101,8 @@ fn operations_in_subaction(child: &Subaction) -> u32
 
 #[cycle(count)]
 fn operations_in_handlers(handlers: &[Handler]) -> u32
-    requires { operations_of_handlers (for_reasons (map handler_view handlers.now) Pass) ≤ MAX_OPERATIONS }
+    requires { operations_of_handlers (for_reasons (map handler_view handlers.now) Pass)
+        ≤ MAX_OPERATIONS }
     ensures { result ≡ operations_of_handlers (for_reasons (map handler_view handlers.now) Pass) }
 {
     let mut count = 0;

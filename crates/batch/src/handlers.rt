@@ -13,8 +13,10 @@ use meaning::End;
 
 /// The first of a subaction's handlers for the reason of an abort, if there is one.
 pub fn handler_for(child: &Subaction, reason: Option<u32>) -> Option<&Handler>
-    ensures first { option_map (λ handler. handler.now) result ≡ find (λ handler. is_for handler.reason reason) (out-Subaction child.now).handlers.items }
-    ensures inside { ForSome result (λ handler. size-Block handler.now.block < size-Subaction child.now) }
+    ensures first { option_map (λ handler. handler.now) result
+        ≡ find (λ handler. is_for handler.reason reason) (out-Subaction child.now).handlers.items }
+    ensures inside { ForSome result (λ handler. size-Block handler.now.block
+        < size-Subaction child.now) }
 {
     child
         .handlers
@@ -25,7 +27,8 @@ pub fn handler_for(child: &Subaction, reason: Option<u32>) -> Option<&Handler>
 /// The block that takes the abort of a subaction's body for this reason, if one does: a handler, or
 /// else what runs otherwise.
 pub fn taker(child: &Subaction, reason: Option<u32>) -> Option<&Block>
-    ensures takes { option_map (λ block. block_view block.now) result ≡ taker (subaction_view child.now).handlers reason }
+    ensures takes { option_map (λ block. block_view block.now) result
+        ≡ taker (subaction_view child.now).handlers reason }
     ensures inside { ForSome result (λ block. size-Block block.now < size-Subaction child.now) }
 {
     match handler_for(child, reason) {

@@ -24,8 +24,10 @@ pub fn perform_left(
     first: usize,
     values: &mut [Value],
 ) -> Result<(), NoMemory>
-    requires { CanPerformOn first values.old (left_by_transaction (block_view block.now) (record_view done.now)) }
-    ensures { OnOk result (ArePerformedOn first values.old values.new (left_by_transaction (block_view block.now) (record_view done.now))) }
+    requires { CanPerformOn first values.old (left_by_transaction (block_view block.now)
+        (record_view done.now)) }
+    ensures { OnOk result (ArePerformedOn first values.old values.new
+        (left_by_transaction (block_view block.now) (record_view done.now))) }
 {
     match done.outcome {
         End::Ended => perform_block(block, done, first, values)?,
@@ -42,7 +44,8 @@ fn perform_block(
     values: &mut [Value],
 ) -> Result<(), NoMemory>
     requires { CanPerformOn first values.old (left (block_view block.now) (record_view done.now)) }
-    ensures { OnOk result (ArePerformedOn first values.old values.new (left (block_view block.now) (record_view done.now))) }
+    ensures { OnOk result (ArePerformedOn first values.old values.new
+        (left (block_view block.now) (record_view done.now))) }
 {
     for (place, step) in block.steps.iter().enumerate() {
         if place >= done.taken.len() {
@@ -60,8 +63,10 @@ fn perform_step(
     first: usize,
     values: &mut [Value],
 ) -> Result<(), NoMemory>
-    requires { CanPerformOn first values.old (left_by_step (step_view step.now) (taken_view taken.now)) }
-    ensures { OnOk result (ArePerformedOn first values.old values.new (left_by_step (step_view step.now) (taken_view taken.now))) }
+    requires { CanPerformOn first values.old (left_by_step (step_view step.now)
+        (taken_view taken.now)) }
+    ensures { OnOk result (ArePerformedOn first values.old values.new
+        (left_by_step (step_view step.now) (taken_view taken.now))) }
 {
     match (step, taken) {
         (Step::Op { object, call, .. }, Taken::Op(_)) => {
@@ -100,9 +105,11 @@ fn perform_child(
     first: usize,
     values: &mut [Value],
 ) -> Result<(), NoMemory>
-    requires { CanPerformOn first values.old (left_by_child (subaction_view child.now).body (subaction_view child.now).handlers
+    requires { CanPerformOn first values.old (left_by_child (subaction_view child.now).body
+        (subaction_view child.now).handlers
         (tried_view (body.now, option_copied handler))) }
-    ensures { OnOk result (ArePerformedOn first values.old values.new (left_by_child (subaction_view child.now).body (subaction_view child.now).handlers
+    ensures { OnOk result (ArePerformedOn first values.old values.new
+        (left_by_child (subaction_view child.now).body (subaction_view child.now).handlers
         (tried_view (body.now, option_copied handler.entry)))) }
 {
     match handler {
@@ -119,8 +126,10 @@ fn perform_handler(
     first: usize,
     values: &mut [Value],
 ) -> Result<(), NoMemory>
-    requires { CanPerformOn first values.old (left (taker_at (subaction_view child.now).handlers end) (record_view handler.now)) }
-    ensures { OnOk result (ArePerformedOn first values.old values.new (left (taker_at (subaction_view child.now).handlers end) (record_view handler.now))) }
+    requires { CanPerformOn first values.old (left
+        (taker_at (subaction_view child.now).handlers end) (record_view handler.now)) }
+    ensures { OnOk result (ArePerformedOn first values.old values.new
+        (left (taker_at (subaction_view child.now).handlers end) (record_view handler.now))) }
 {
     if let End::Aborted(reason) = end {
         if let Some(block) = taker(child, reason) {
@@ -137,8 +146,10 @@ fn perform_children(
     first: usize,
     values: &mut [Value],
 ) -> Result<(), NoMemory>
-    requires { CanPerformOn first values.old (left_by_children (children_view children.now) (all_tried_view tried.now)) }
-    ensures { OnOk result (ArePerformedOn first values.old values.new (left_by_children (children_view children.now) (all_tried_view tried.now))) }
+    requires { CanPerformOn first values.old (left_by_children (children_view children.now)
+        (all_tried_view tried.now)) }
+    ensures { OnOk result (ArePerformedOn first values.old values.new
+        (left_by_children (children_view children.now) (all_tried_view tried.now))) }
 {
     for (place, child) in children.iter().enumerate() {
         if place >= tried.len() {

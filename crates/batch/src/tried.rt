@@ -23,7 +23,8 @@ impl Tried {
     /// The subaction as a step that was taken. Returns `NoMemory` where a request for memory was
     /// refused.
     pub fn into_taken(self, alloc: Global) -> Result<Taken, NoMemory>
-        ensures { IfOk result (λ taken. taken_view taken ≡ Acted (tried_view (self.body, self.handler))) }
+        ensures { IfOk result (λ taken. taken_view taken
+            ≡ Acted (tried_view (self.body, self.handler))) }
     {
         let body = Box::new(alloc, self.body)?;
         let handler = self.handler.map(|done| Box::new(alloc, done)).transpose()?;

@@ -40,7 +40,7 @@ first_unfit version place entries [] = None
 first_unfit version place entries (v ∷ values) =
     unfit_or place (first_unfit version (place + 1) (entries + entries_in v) values) (unfit_after version entries v)
 
--- JSON texts and lists. Naming have ASCII letters, digits and signs alone that JSON takes as they are, so that nothing is escaped.
+-- JSON texts and lists. Names have ASCII letters, digits and signs alone that JSON takes as they are, so that nothing is escaped.
 abbrev pub quoted : List ℕ → List ℕ
 quoted name = codes "\"" ++ name ++ codes "\""
 

@@ -1,4 +1,4 @@
--- Seats that are joined_views, one after the other, and what is known once all are.
+-- Seats that are joined, one after the other, and what is known once all are.
 use Rattle.std.proofs.Common.{◌≡◌, ◌≢◌, ℕ, zero, suc, ◌<◌, ◌≤◌, min, true, ◌||◌, List, [], ◌∷◌, ◌++◌, length, get_or, set, sym, refl, ap}
 use Rattle.std.proofs.Common.{◌∙◌, subst, ⊎_elim, arith}
 use Rattle.std.proofs.Math.Bool.{or-false}
@@ -74,8 +74,8 @@ length_views (s ∷ seats) = ap suc (length_views seats)
 
 -- a view that has taken in those of all seats is the only one that is not spent
 module _ (size : Size) (words : List ℕ) (views : List SeatView) (rule : Kept size words views) (id : ℕ) (v : SeatView)
-    (at : get_elem? views id ≡ some v) (joined_views : List SeatView) (t : Together size.pieces joined_views v)
-    (all : length joined_views ≡ size.seats) where
+    (at : get_elem? views id ≡ some v) (joined : List SeatView) (t : Together size.pieces joined v)
+    (all : length joined ≡ size.seats) where
   k : Counted size words views
   k = counted size words views rule
 
@@ -125,26 +125,26 @@ module _ (size : Size) (words : List ℕ) (views : List SeatView) (rule : Kept s
   first_is = ap (λ ws. get_or ws 2 0) k.words_are
 
   -- what the words say of all seats, clause by clause of `gather`
-  pub gathers_once : HoldsEachBelow (min (get_or words 0 0) size.pieces) (all_drawn joined_views)
+  pub gathers_once : HoldsEachBelow (min (get_or words 0 0) size.pieces) (all_drawn joined)
   gathers_once x = ap (times x) (sym t.drawn) ∙ sym (total_alone (λ u. times x u.drawn) refl) ∙ k.once x
       ∙ ap (λ n. once_below x (min n size.pieces)) (sym next_is)
 
-  pub gathers_done : All (λ u. 0 < u.done → min (get_or words 0 0) size.pieces ≡ size.pieces) joined_views
-  gathers_done = all_map (Covers v) (λ u. 0 < u.done → min (get_or words 0 0) size.pieces ≡ size.pieces) joined_views
+  pub gathers_done : All (λ u. 0 < u.done → min (get_or words 0 0) size.pieces ≡ size.pieces) joined
+  gathers_done = all_map (Covers v) (λ u. 0 < u.done → min (get_or words 0 0) size.pieces ≡ size.pieces) joined
       (λ u h some_done. let over = (k.each id v at).passed (omega (arith, h.0)) in omega (arith, next_is)) t.each
 
-  pub gathers_raised : get_or words 1 0 ≡ bit (list_any (λ u. u.raised) joined_views)
+  pub gathers_raised : get_or words 1 0 ≡ bit (list_any (λ u. u.raised) joined)
   gathers_raised = stop_is ∙ k.raised ∙ most_alone (λ u. bit u.raised) refl ∙ ap bit t.raised
 
-  pub gathers_stopped : All (λ u. u.stopped ≡ true → get_or words 1 0 ≡ 1) joined_views
-  gathers_stopped = all_map (Covers v) (λ u. u.stopped ≡ true → get_or words 1 0 ≡ 1) joined_views (λ u h was. stop_is
+  pub gathers_stopped : All (λ u. u.stopped ≡ true → get_or words 1 0 ≡ 1) joined
+  gathers_stopped = all_map (Covers v) (λ u. u.stopped ≡ true → get_or words 1 0 ≡ 1) joined (λ u h was. stop_is
       ∙ (k.each id v at).stopped (h.1 was)) t.each
 
-  pub gathers_first : get_or words 2 0 ≡ least (λ u. u.low) size.pieces joined_views
+  pub gathers_first : get_or words 2 0 ≡ least (λ u. u.low) size.pieces joined
   gathers_first = omega (arith, first_is, k.lowest, least_alone (λ u. u.low) size.pieces k.small.0, t.low)
 
-  pub gathers_told : All (λ u. get_or words 2 0 ≤ u.told) joined_views
-  gathers_told = all_map (Covers v) (λ u. get_or words 2 0 ≤ u.told) joined_views
+  pub gathers_told : All (λ u. get_or words 2 0 ≤ u.told) joined
+  gathers_told = all_map (Covers v) (λ u. get_or words 2 0 ≤ u.told) joined
       (λ u h. omega (arith, first_is, (k.each id v at).told, h.2))
       t.each
 

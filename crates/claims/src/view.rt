@@ -1,4 +1,4 @@
-//! Views: what a seat knows, how large a board is, and how views are cut and joined_views.
+//! Views: what a seat knows, how large a board is, and how views are cut and joined.
 
 use atomic_table::{Join, Split};
 use std::collections::LinkedList;

@@ -20,7 +20,7 @@ pub struct NameHashing {
     document: DefaultHasher,
 }
 
-/// TextSet, each once, by number.
+/// Texts, each once, by number.
 pub type TextSet = IndexSet<String, NameHashing>;
 
 /// Labels, each with what it is of.

@@ -78,7 +78,8 @@ impl<'s> DirectoryDraft<'s> {
     pub fn look(&self, call: &DirectoryCall) -> Option<DirectoryReply>
         ensures reply { IfSome result (λ reply. directory.reply self.now.value call.now ≡ reply) }
         ensures same { IsSome result → directory.after self.now.value call.now ≡ self.now.value }
-        ensures answers { IsNone result → IsSome (directory_undoing.change self.now.value call.now) }
+        ensures answers { IsNone result → IsSome (directory_undoing.change self.now.value
+            call.now) }
     {
         match call {
             DirectoryCall::Bind(key, _) => match self.get(*key) {
@@ -102,7 +103,8 @@ impl<'s> DirectoryDraft<'s> {
     pub fn perform(&mut self, call: &DirectoryCall) -> Result<DirectoryReply, NoMemory>
         requires { IsSome (directory_undoing.change self.old.value call.now) }
         ensures reply { IfOk result (λ reply. reply ≡ directory.reply self.old.value call.now) }
-        ensures ok { OnOk result (self.new ≡ changed self.old (directory.after self.old.value call.now)) }
+        ensures ok { OnOk result (self.new ≡ changed self.old
+            (directory.after self.old.value call.now)) }
         ensures err { OnErr result (self.new ≡ self.old) }
     {
         match call {

@@ -104,7 +104,8 @@ impl<'s> Draft<'s> {
     /// The reply of a call that leaves the value as it is, and none for a call that changes it. A
     /// put into a directory counts as one that changes it, whatever the key is bound to.
     pub fn look(&self, call: &Call) -> Option<Reply>
-        ensures reply { IfSome result (λ reply. one_value.reply self.now.value call.now ≡ Some reply) }
+        ensures reply { IfSome result (λ reply. one_value.reply self.now.value call.now
+            ≡ Some reply) }
         ensures same { IsSome result → one_value.after self.now.value call.now ≡ self.now.value }
         ensures answers { kind_of_value self.now.value ≡ kind_of_call call.now
             → IsNone result → IsSome (value_change self.now.value call.now) }
@@ -134,8 +135,10 @@ impl<'s> Draft<'s> {
         requires fits { kind_of_value self.old.value ≡ kind_of_call call.now }
         requires room { HasRoom self.old.value call.now }
         requires changes { IsSome (value_change self.old.value call.now) }
-        ensures reply { IfOk result (λ reply. one_value.reply self.old.value call.now ≡ Some reply) }
-        ensures ok { OnOk result (self.new ≡ changed self.old (one_value.after self.old.value call.now)) }
+        ensures reply { IfOk result (λ reply. one_value.reply self.old.value call.now
+            ≡ Some reply) }
+        ensures ok { OnOk result (self.new ≡ changed self.old
+            (one_value.after self.old.value call.now)) }
         ensures err { OnErr result (self.new ≡ self.old) }
     {
         match (&mut self.kept, call) {
@@ -164,7 +167,8 @@ impl<'s> Draft<'s> {
         requires fits { kind_of_value self.old.value ≡ kind_of_call call.now }
         requires room { HasRoom self.old.value call.now }
         requires changes { IsSome (value_change self.old.value call.now) }
-        ensures reply { IfOk result (λ reply. one_value.reply self.old.value call.now ≡ Some reply) }
+        ensures reply { IfOk result (λ reply. one_value.reply self.old.value call.now
+            ≡ Some reply) }
         ensures ok { OnOk result (self.new ≡ unchanged (one_value.after self.old.value call.now)) }
         ensures err { OnErr result (self.new ≡ self.old) }
         ensures refused { OnErr result (KeepsItems self.old.value) }

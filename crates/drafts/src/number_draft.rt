@@ -34,7 +34,8 @@ impl<T: Copy + Drop> NumberDraft<T> {
     pub fn perform<A: Atom<Value = T>>(&mut self, call: &A::Call) -> Result<A::Reply, NoMemory>
         requires { A.HasRoom self.old.number call.now }
         ensures reply { IfOk result (λ reply. reply ≡ A.serial.reply self.old.number call.now) }
-        ensures ok { OnOk result (number_history self.new ≡ changed (number_history self.old) (A.serial.after self.old.number call.now)) }
+        ensures ok { OnOk result (number_history self.new
+            ≡ changed (number_history self.old) (A.serial.after self.old.number call.now)) }
         ensures err { OnErr result (number_history self.new ≡ number_history self.old) }
     {
         self.make_room()?;
@@ -62,7 +63,8 @@ impl<T: Copy + Drop> NumberDraft<T> {
     pub fn settle<A: Atom<Value = T>>(&mut self, call: &A::Call) -> Result<A::Reply, NoMemory>
         requires { A.HasRoom self.old.number call.now }
         ensures reply { IfOk result (λ reply. reply ≡ A.serial.reply self.old.number call.now) }
-        ensures ok { OnOk result (number_history self.new ≡ unchanged (A.serial.after self.old.number call.now)) }
+        ensures ok { OnOk result (number_history self.new
+            ≡ unchanged (A.serial.after self.old.number call.now)) }
         ensures err { OnErr result (number_history self.new ≡ number_history self.old) }
         ensures refused { OnErr result (A.MayGrow self.old.number call.now) }
     {

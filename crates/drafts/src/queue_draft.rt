@@ -96,7 +96,8 @@ impl<'s> QueueDraft<'s> {
     pub fn perform(&mut self, call: &QueueCall) -> Result<QueueReply, NoMemory>
         requires { IsSome (queue_undoing.change self.old.value call.now) }
         ensures reply { IfOk result (λ reply. reply ≡ queue.reply self.old.value call.now) }
-        ensures ok { OnOk result (self.new ≡ changed self.old (queue.after self.old.value call.now)) }
+        ensures ok { OnOk result (self.new ≡ changed self.old
+            (queue.after self.old.value call.now)) }
         ensures err { OnErr result (self.new ≡ self.old) }
     {
         match call {

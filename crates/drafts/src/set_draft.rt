@@ -99,7 +99,8 @@ impl<'s> SetDraft<'s> {
     pub fn perform(&mut self, call: &SetCall) -> Result<SetReply, NoMemory>
         requires { IsSome (set_undoing.change self.old.value call.now) }
         ensures reply { IfOk result (λ reply. reply ≡ item_set.reply self.old.value call.now) }
-        ensures ok { OnOk result (self.new ≡ changed self.old (item_set.after self.old.value call.now)) }
+        ensures ok { OnOk result (self.new ≡ changed self.old
+            (item_set.after self.old.value call.now)) }
         ensures err { OnErr result (self.new ≡ self.old) }
     {
         match call {

@@ -42,8 +42,10 @@ impl<'a, 's> ShownValue<'a, 's> {
     /// put into a directory counts as one that changes it, whatever the key is bound to. It takes
     /// no memory.
     pub fn look(&self, alloc: Global, call: &Call) -> Option<Reply>
-        ensures reply { IfSome result (λ reply. one_value.reply (shown_value self.now) call.now ≡ Some reply) }
-        ensures same { IsSome result → one_value.after (shown_value self.now) call.now ≡ shown_value self.now }
+        ensures reply { IfSome result (λ reply. one_value.reply (shown_value self.now) call.now
+            ≡ Some reply) }
+        ensures same { IsSome result → one_value.after (shown_value self.now) call.now
+            ≡ shown_value self.now }
         ensures answers { kind_of_value (shown_value self.now) ≡ kind_of_call call.now
             → IsNone result → IsSome (value_change (shown_value self.now) call.now) }
     {

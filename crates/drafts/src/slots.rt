@@ -11,7 +11,8 @@ use std::collections::BTreeMap;
 /// Writes a slot that is there. It takes no memory.
 pub fn write_slot<B: Drop>(slots: &mut BTreeMap<Item, B>, item: Item, content: B)
     requires { IsSome (slot_at slots.old.entries item) }
-    ensures { (q : Item) → slot_at slots.new.entries q ≡ cond (is_at (item_cmp item) q) (Some content) (slot_at slots.old.entries q) }
+    ensures { (q : Item) → slot_at slots.new.entries q
+        ≡ cond (is_at (item_cmp item) q) (Some content) (slot_at slots.old.entries q) }
 {
     match slots.insert(item, content) {
         Ok(_) => {}

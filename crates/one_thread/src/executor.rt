@@ -25,7 +25,8 @@ pub(crate) fn run_block(
 ) -> Result<Record, NoMemory>
     requires { CanRunHere (block_view block.now) labels.old.items workspace.old.state }
     ensures shows { IfOk result
-        (λ r. ShowsRun in_place (one (block_view block.now) labels.old.items workspace.old.state) r workspace.old workspace.new) }
+        (λ r. ShowsRun in_place (one (block_view block.now) labels.old.items workspace.old.state) r
+        workspace.old workspace.new) }
     ensures labels { OnOk result (labels.new.items ≡ labels.old.items) }
 {
     let seen = labels.len();
@@ -43,7 +44,8 @@ fn run_steps(
 ) -> Result<Record, NoMemory>
     requires { CanRunHere (steps_view steps.now) labels.old.items workspace.old.state }
     ensures shows { IfOk result
-        (λ r. ShowsRun in_place (one (steps_view steps.now) labels.old.items workspace.old.state) r workspace.old workspace.new) }
+        (λ r. ShowsRun in_place (one (steps_view steps.now) labels.old.items workspace.old.state) r
+        workspace.old workspace.new) }
     ensures labels { OnOk result (StillSeen labels.old.items labels.new.items) }
 {
     let mut taken = Vec::with_capacity(alloc, steps.len())?;
@@ -75,7 +77,9 @@ fn run_step(
 ) -> Result<(Taken, End), NoMemory>
     requires { CanStepHere (step_view step.now) labels.old.items workspace.old.state }
     ensures shows { IfOk result
-        (λ r. ShowsStep in_place (one_step (step_view step.now) labels.old.items workspace.old.state) r.0 r.1 labels.old.items labels.new.items workspace.old workspace.new) }
+        (λ r. ShowsStep in_place (one_step (step_view step.now) labels.old.items
+        workspace.old.state) r.0 r.1 labels.old.items labels.new.items workspace.old
+        workspace.new) }
     ensures labels { OnOk result (StillSeen labels.old.items labels.new.items) }
 {
     match step {
@@ -126,7 +130,9 @@ fn run_filled(
 ) -> Result<(Taken, End), NoMemory>
     requires { CanStepHere (filling_view filling.now) labels.old.items workspace.old.state }
     ensures shows { IfOk result
-        (λ r. ShowsStep in_place (one_step (filling_view filling.now) labels.old.items workspace.old.state) r.0 r.1 labels.old.items labels.new.items workspace.old workspace.new) }
+        (λ r. ShowsStep in_place (one_step (filling_view filling.now) labels.old.items
+        workspace.old.state) r.0 r.1 labels.old.items labels.new.items workspace.old
+        workspace.new) }
     ensures labels { OnOk result (StillSeen labels.old.items labels.new.items) }
 {
     match fill(&filling.template, labels) {
@@ -151,7 +157,8 @@ fn run_subaction(
     requires { CanTryHere (subaction_view child.now) labels.old.items workspace.old.state }
     ensures shows { IfOk result
         (λ r. let child = subaction_view child.now in
-        ShowsTried in_place child (acted child labels.old.items workspace.old.state) r workspace.old workspace.new) }
+        ShowsTried in_place child (acted child labels.old.items workspace.old.state) r workspace.old
+        workspace.new) }
     ensures labels { OnOk result (labels.new.items ≡ labels.old.items) }
 {
     let mark = workspace.mark();
@@ -180,9 +187,11 @@ fn run_handler(
     labels: &mut Vec<Held>,
     workspace: &mut JournaledObjects,
 ) -> Result<(Option<Record>, End), NoMemory>
-    requires { CanHandleHere (subaction_view child.now).handlers labels.old.items workspace.old.state }
+    requires { CanHandleHere (subaction_view child.now).handlers labels.old.items
+        workspace.old.state }
     ensures shows { IfOk result
-        (λ r. ShowsHandler in_place (one_handler (subaction_view child.now).handlers labels.old.items reason workspace.old.state) r.0 r.1 workspace.old workspace.new) }
+        (λ r. ShowsHandler in_place (one_handler (subaction_view child.now).handlers
+        labels.old.items reason workspace.old.state) r.0 r.1 workspace.old workspace.new) }
     ensures labels { OnOk result (labels.new.items ≡ labels.old.items) }
 {
     match taker(child, reason) {
@@ -203,7 +212,8 @@ fn run_children(
     requires can { CanRunAllHere (children_view children.now) labels.old.items workspace.old.state }
     requires none_yet { outcomes.old.items ≡ [] }
     ensures shows { IfOk result
-        (λ r. ShowsChildren in_place (one_children (children_view children.now) labels.old.items workspace.old.state) r.0.items r.1 outcomes.new.items workspace.old workspace.new) }
+        (λ r. ShowsChildren in_place (one_children (children_view children.now) labels.old.items
+        workspace.old.state) r.0.items r.1 outcomes.new.items workspace.old workspace.new) }
     ensures labels { OnOk result (labels.new.items ≡ labels.old.items) }
 {
     let mut all = Vec::with_capacity(alloc, children.len())?;

@@ -20,9 +20,11 @@ use std::alloc::Global;
 /// Returns `NoMemory` where a request for memory was refused, and nothing else then.
 pub fn plain(alloc: Global, batch: &Batch) -> Result<Plain, NoMemory>
     // Each transaction's replies, branches and outcomes are those of one thread.
-    ensures records { IfOk result (λ p. map record_view p.records.items ≡ all_shown (start_of batch.now) (blocks_of batch.now)) }
+    ensures records { IfOk result (λ p. map record_view p.records.items
+        ≡ all_shown (start_of batch.now) (blocks_of batch.now)) }
     // So are the objects at the end.
-    ensures objects { IfOk result (λ p. p.objects ≡ final_state (start_of batch.now) (blocks_of batch.now)) }
+    ensures objects { IfOk result (λ p. p.objects ≡ final_state (start_of batch.now)
+        (blocks_of batch.now)) }
     // They are no more than a document may have.
     ensures few_objects { IfOk result (λ p. length p.objects ≤ MAX_OBJECTS) }
 {
@@ -45,7 +47,8 @@ fn run_transaction(
 ) -> Result<Record, NoMemory>
     requires can { CanRunHere (block_view block.now) [] workspace.old.state }
     requires settled { workspace.old.journal ≡ [] }
-    ensures shows { IfOk result (λ made. record_view made ≡ shown_of (one (block_view block.now) [] workspace.old.state)) }
+    ensures shows { IfOk result (λ made. record_view made
+        ≡ shown_of (one (block_view block.now) [] workspace.old.state)) }
     ensures settles { OnOk result (workspace.new ≡ record {
       state = settled workspace.old.state (one (block_view block.now) [] workspace.old.state);
       journal = [];

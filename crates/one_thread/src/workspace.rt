@@ -56,7 +56,8 @@ impl JournaledObjects {
     /// changed.
     pub(crate) fn perform(&mut self, object: u32, call: &Call) -> Result<Reply, NoMemory>
         requires { CanPerform self.old.state object call.now }
-        ensures reply { IfOk result (λ reply. reply_at self.old.state object call.now ≡ Some reply) }
+        ensures reply { IfOk result (λ reply. reply_at self.old.state object call.now
+            ≡ Some reply) }
         ensures ok { OnOk result (self.new ≡ performed self.old object call.now) }
     {
         if let Some(change) = self.objects.change(object, call) {
@@ -95,7 +96,8 @@ fn undo_from(
     mark: usize,
 ) -> Result<(), NoMemory>
     requires { mark ≤ length journal.old.items }
-    ensures objects { OnOk result (objects.new ≡ undone_all objects_undoing objects.old (drop mark journal.old.items)) }
+    ensures objects { OnOk result (objects.new ≡ undone_all objects_undoing objects.old
+        (drop mark journal.old.items)) }
     ensures journal { OnOk result (journal.new.items ≡ take mark journal.old.items) }
 {
     while journal.len() > mark {

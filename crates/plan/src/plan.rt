@@ -101,7 +101,8 @@ impl Plan {
     pub fn workers_for(self, operations: usize) -> u32
         ensures within { (1 ≤ result) × (result ≤ self.workers) }
         ensures all { self.cut ≡ 1 → result ≡ self.workers }
-        ensures paid { 1 < self.cut → result ≡ max 1 (min self.workers (operations / (256 * (self.cut - 1)))) }
+        ensures paid { 1 < self.cut → result ≡ max 1
+            (min self.workers (operations / (256 * (self.cut - 1)))) }
     {
         if self.cut == 1 {
             return self.workers;

@@ -29,7 +29,8 @@ pub(crate) struct FirstConflict {
 pub(crate) fn stands_past(runs: &[PendingRun], place: usize, nets: &Committed, upto: usize) -> bool
     requires place { place < length runs.now }
     requires upto { upto ≤ length nets.now }
-    ensures { IsTrue result ↔ ((d : OnePending) → HoldsPast (take upto nets.now) (slice_index_or runs.now place d)) }
+    ensures { IsTrue result ↔ ((d : OnePending) → HoldsPast (take upto nets.now)
+        (slice_index_or runs.now place d)) }
 {
     upto == 0 || nets.stands(&runs[place].sums.entries, upto)
 }
@@ -71,7 +72,8 @@ fn first_from<R: Threads + Sync, G: Gate>(
     requires workers { (1 ≤ workers.now.count) × (workers.now.count ≤ MAX_WORKERS) }
     requires few { before + length runs.now ≤ MAX_TRANSACTIONS }
     requires all { length starts.now ≡ length runs.now }
-    requires within { (i : ℕ) → i < length runs.now → slice_index_or starts.now i 0 ≤ length nets.now }
+    requires within { (i : ℕ) → i < length runs.now → slice_index_or starts.now i 0
+        ≤ length nets.now }
     ensures { IfOk result (λ first. IsFirstFrom nets.now starts.now runs.now first) }
 {
     let Workers {
@@ -86,8 +88,12 @@ fn first_from<R: Threads + Sync, G: Gate>(
         runs.len() as u32,
         count,
         &|piece: u32| -> bool
-            requires { (piece < length runs.now) × (before + length runs.now ≤ MAX_TRANSACTIONS) × (length starts.now ≡ length runs.now) × ((i : ℕ) → i < length runs.now → slice_index_or starts.now i 0 ≤ length nets.now) }
-            ensures { IsTrue result ↔ HoldsFrom nets.entry.now starts.entry.now runs.entry.now piece }
+            requires { (piece < length runs.now) × (before + length runs.now ≤ MAX_TRANSACTIONS)
+                × (length starts.now ≡ length runs.now)
+                × ((i : ℕ) → i < length runs.now → slice_index_or starts.now i 0
+                ≤ length nets.now) }
+            ensures { IsTrue result ↔ HoldsFrom nets.entry.now starts.entry.now runs.entry.now
+                piece }
         {
             let place = piece as usize;
             gate.pass(0, (before + place) as u32 + 1);

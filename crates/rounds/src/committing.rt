@@ -50,7 +50,8 @@ fn commit_one(
     values: &mut [Value],
 ) -> Result<(), NoMemory>
     requires { CanPerformOn first values.old (own_net (block_view block.now) run.now) }
-    ensures { OnOk result (ArePerformedOn first values.old values.new (own_net (block_view block.now) run.now)) }
+    ensures { OnOk result (ArePerformedOn first values.old values.new
+        (own_net (block_view block.now) run.now)) }
 {
     match &run.net {
         Net::Listed(net) => perform_each(values, first, net),

@@ -22,7 +22,8 @@ use std::alloc::Global;
 use std::thread::Threads;
 
 fn no_counts(alloc: Global, count: usize) -> Result<Vec<u32>, NoMemory>
-    ensures { IfOk result (λ counts. (length counts.items ≡ count) × ((i : ℕ) → slice_index_or counts.items i 0 ≡ 0)) }
+    ensures { IfOk result (λ counts. (length counts.items ≡ count)
+        × ((i : ℕ) → slice_index_or counts.items i 0 ≡ 0)) }
 {
     let mut counts = Vec::with_capacity(alloc, count)?;
     for _ in 0..count {
@@ -116,9 +117,11 @@ fn drop_later(at: &mut Opening)
 // Adds 1 to the counts of these numbers, each of which comes once.
 fn count(numbers: &[usize], counts: &mut Vec<u32>)
     requires within { (i : ℕ) → 0 < times i numbers.now → i < length counts.old.items }
-    requires few { (i : ℕ) → slice_index_or counts.old.items i 0 + times i numbers.now ≤ MAX_TRANSACTIONS + 1 }
+    requires few { (i : ℕ) → slice_index_or counts.old.items i 0 + times i numbers.now
+        ≤ MAX_TRANSACTIONS + 1 }
     ensures all { length counts.new.items ≡ length counts.old.items }
-    ensures counted { (i : ℕ) → slice_index_or counts.new.items i 0 ≡ slice_index_or counts.old.items i 0 + times i numbers.now }
+    ensures counted { (i : ℕ) → slice_index_or counts.new.items i 0
+        ≡ slice_index_or counts.old.items i 0 + times i numbers.now }
 {
     for number in numbers {
         counts[*number] += 1;

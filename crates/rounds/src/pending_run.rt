@@ -176,7 +176,8 @@ impl PendingRun {
 
     /// Frees the summaries, unless the net is in them. The rest can still be committed.
     pub(crate) fn free_sums(&mut self, alloc: Global)
-        ensures { (meant : Execution Taken) → IsCommittable meant self.old → IsCommittable meant self.new }
+        ensures { (meant : Execution Taken) → IsCommittable meant self.old
+            → IsCommittable meant self.new }
     {
         if !matches!(self.net, Net::Summed) {
             self.sums = Sums::empty(alloc);

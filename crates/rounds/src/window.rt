@@ -329,7 +329,8 @@ impl Window {
         requires workers { (1 ≤ workers) × (workers ≤ MAX_WORKERS) }
         requires upto { upto ≤ length nets.now }
         requires from { (self.now.first ≤ from) × (from ≤ end_of self.now) }
-        ensures { IfOk result (λ numbers. AreFallen self.now (take upto nets.now) from (end_of self.now) numbers.items) }
+        ensures { IfOk result (λ numbers. AreFallen self.now (take upto nets.now) from
+            (end_of self.now) numbers.items) }
     {
         let Job {
             threads,

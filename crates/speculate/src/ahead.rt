@@ -74,7 +74,8 @@ impl Ahead {
         ensures tried { IfOk result (λ run. run.tried ≡ tried) }
         ensures entries { IfOk result (λ run. run.entries.items ≡ view.entry.entries) }
         ensures net { IfOk result (λ run. run.net.items ≡ view.entry.net) }
-        ensures summary { IfOk result (λ run. IsSummary (entries_of run.summary.items) run.entries.items) }
+        ensures summary { IfOk result (λ run. IsSummary (entries_of run.summary.items)
+            run.entries.items) }
     {
         let Lists { entries, net } = view.into_run();
         let mut summary = Vec::new(shared.alloc);
@@ -95,9 +96,12 @@ impl Ahead {
         view: &mut View<'_>,
     ) -> Result<Option<Tried>, NoMemory>
         requires summary { IsSummary (entries_of self.summary.items) self.entries.items }
-        requires legal { AllCommute self.entries.items kept.old → AreLegal (shown_values view.old) self.net.items }
-        requires room { AllCommute self.entries.items kept.old → AllHaveRoom (shown_values view.old) self.net.items }
-        ensures taken_in { IfOk result (λ tried. ForSome tried (λ t. IsKept self kept.old view.old t kept.new view.new)) }
+        requires legal { AllCommute self.entries.items kept.old
+            → AreLegal (shown_values view.old) self.net.items }
+        requires room { AllCommute self.entries.items kept.old
+            → AllHaveRoom (shown_values view.old) self.net.items }
+        ensures taken_in { IfOk result (λ tried. ForSome tried
+            (λ t. IsKept self kept.old view.old t kept.new view.new)) }
         ensures kept { IfOk result (λ tried. IfNone tried (kept.new ≡ kept.old)) }
         ensures view { IfOk result (λ tried. IfNone tried (view.new ≡ view.old)) }
     {
@@ -115,7 +119,8 @@ pub(crate) fn both_halves(
     front: Result<Vec<Ahead>, NoMemory>,
     back: Result<Vec<Ahead>, NoMemory>,
 ) -> Result<Vec<Ahead>, NoMemory>
-    ensures { IfOk result (λ runs. IsOkAnd front (λ first. IsOkAnd back (λ second. runs.items ≡ first.items ++ second.items))) }
+    ensures { IfOk result (λ runs. IsOkAnd front (λ first. IsOkAnd back
+        (λ second. runs.items ≡ first.items ++ second.items))) }
 {
     let mut runs = front?;
     let mut others = back?;

@@ -31,8 +31,10 @@ impl Reached {
 
     /// Adds the next child. Returns how the step goes on.
     pub(crate) fn add(&mut self, labelled: bool, tried: Tried) -> Result<End, NoMemory>
-        ensures all { OnOk result (self.new.all.items ≡ self.old.all.items ++ (tried.body, tried.handler) ∷ []) }
-        ensures outcomes { OnOk result (self.new.outcomes.items ≡ self.old.outcomes.items ++ label_if labelled (Outcome tried.body.outcome)) }
+        ensures all { OnOk result (self.new.all.items ≡ self.old.all.items
+            ++ (tried.body, tried.handler) ∷ []) }
+        ensures outcomes { OnOk result (self.new.outcomes.items ≡ self.old.outcomes.items
+            ++ label_if labelled (Outcome tried.body.outcome)) }
         ensures end { IfOk result (λ end. end ≡ tried.end) }
     {
         add_label(

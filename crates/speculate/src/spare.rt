@@ -45,7 +45,8 @@ impl Spare {
 
     /// A subaction as a step that was taken, in these boxes.
     pub(crate) fn into_taken(&mut self, alloc: Global, tried: Tried) -> Result<Taken, NoMemory>
-        ensures { IfOk result (λ taken. taken_view taken ≡ Acted (tried_view (tried.body, tried.handler))) }
+        ensures { IfOk result (λ taken. taken_view taken
+            ≡ Acted (tried_view (tried.body, tried.handler))) }
     {
         let body = boxed(alloc, &mut self.body, tried.body)?;
         let handler = match tried.handler {
@@ -64,9 +65,11 @@ impl Spare {
         labelled: bool,
         tried: Tried,
     ) -> Result<(Taken, End), NoMemory>
-        ensures taken { IfOk result (λ step. taken_view step.0 ≡ Acted (tried_view (tried.body, tried.handler))) }
+        ensures taken { IfOk result (λ step. taken_view step.0
+            ≡ Acted (tried_view (tried.body, tried.handler))) }
         ensures end { IfOk result (λ step. step.1 ≡ tried.end) }
-        ensures labels { OnOk result (labels.new.items ≡ labels.old.items ++ label_if labelled (Outcome tried.body.outcome)) }
+        ensures labels { OnOk result (labels.new.items ≡ labels.old.items
+            ++ label_if labelled (Outcome tried.body.outcome)) }
     {
         add_label(labels, labelled, Held::Outcome(tried.body.outcome))?;
         let end = tried.end;
@@ -115,7 +118,8 @@ pub(crate) fn spare_at(taken: &mut Vec<Taken>, place: usize) -> Spare
 /// Puts what was taken at a place of a list, over what was there.
 pub(crate) fn put_at(taken: &mut Vec<Taken>, place: usize, done: Taken) -> Result<(), NoMemory>
     requires { place ≤ length taken.old.items }
-    ensures put { OnOk result (take (place + 1) taken.new.items ≡ take place taken.old.items ++ done ∷ []) }
+    ensures put { OnOk result (take (place + 1) taken.new.items ≡ take place taken.old.items
+        ++ done ∷ []) }
     ensures long { OnOk result (place + 1 ≤ length taken.new.items) }
 {
     if place < taken.len() {

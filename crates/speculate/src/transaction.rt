@@ -50,8 +50,10 @@ pub fn run<T: Threads + Sync, G: Gate>(
     requires last { number ≤ length batch.now.transactions.items }
     requires narrow { (1 ≤ width) × (width ≤ MAX_WORKERS) }
     requires same_kinds { kinds objects.now ≡ kinds batch.now.objects }
-    requires room { IsWithinOthers (map block_view batch.now.transactions.items) (number - 1) objects.now }
-    ensures { IfOk result (IsRunOf (one (block_at (map block_view batch.now.transactions.items) (number - 1)) [] objects.now)) }
+    requires room { IsWithinOthers (map block_view batch.now.transactions.items) (number - 1)
+        objects.now }
+    ensures { IfOk result (IsRunOf (one (block_at (map block_view batch.now.transactions.items)
+        (number - 1)) [] objects.now)) }
 {
     let mut view = View::open(alloc, objects)?;
     let mut labels = Vec::new(alloc);
