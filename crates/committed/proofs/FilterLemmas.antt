@@ -9,16 +9,16 @@ use Rattle.std.proofs.lemmas.Nat.Bits.{bit_at_and, bit_at_or, bit_at-lt, bit_at-
 use Rattle.atoms.specs.declared.item.Item.{Item}
 use Rattle.atoms.proofs.Items.{one_item}
 use Rattle.objects.specs.declared.entry.Entry.{Entry}
-use Rattle.committed.specs.declared.classes.Class.{Class}
-use Rattle.committed.specs.declared.classes.Class.TheVariants.{Deposit}
+use Rattle.conflicts.specs.declared.classes.Class.{Class}
+use Rattle.conflicts.specs.declared.classes.Class.TheVariants.{Deposit}
 use Rattle.committed.specs.declared.filter.Filter.{Filter}
-use Rattle.committed.specs.Classes.{class_of, class_number, classes, conflicts_of, always_commute, is_by_item}
-use Rattle.committed.specs.Items.{operation_item, is_same_item, is_compared}
+use Rattle.conflicts.specs.Classes.{class_of, class_number, classes, conflicts_of, always_commute, is_by_item}
+use Rattle.conflicts.specs.Items.{operation_item, is_same_item, is_compared}
 use Rattle.committed.specs.Marks.{hash_of, mark_of}
 use Rattle.committed.specs.Filter.{slot_of, HasAllIn, set_at, IsMarked, Meets}
 use Rattle.objects.specs.Entries.{CommuteForward}
-use Rattle.committed.proofs.ClassesLemmas.{always_commutes, elsewhere}
-use Rattle.committed.proofs.ListsLemmas.{class_at, number-bound}
+use Rattle.conflicts.proofs.ClassesLemmas.{always_commutes, elsewhere}
+use Rattle.conflicts.proofs.ClassNumbers.{class_at, number-bound}
 
 -- ---- classes put into a set
 

@@ -14,7 +14,7 @@ use Rattle.committed.specs.declared.index.Index.{Index}
 use Rattle.committed.specs.declared.index.Link.{Link}
 use Rattle.committed.specs.Index.{number_of, no_link, link_at, heading_at, place_at, IsEnd, IsLastOf, IsLink, IsSpan, AreLinks, AreLasts}
 use Rattle.committed.specs.Index.{HasLasts, AreSpans, IsAmong, IsLinked, IsListed, IsIndexOf, StaysIndex}
-use Rattle.committed.specs.Strictness.{IsAsStrict}
+use Rattle.conflicts.specs.Strictness.{IsAsStrict}
 use Rattle.committed.proofs.HeadingsLemmas.{length-values, own_value, other_value, no_fewer, one_more, kept_number, own_number}
 use Rattle.committed.proofs.HeadingsLemmas.{same_heading}
 

@@ -1,9 +1,5 @@
 pub mod HeadingsLemmas
 pub mod ListsLemmas
-pub mod SameLemmas
-pub mod ClassesLemmas
-pub mod StrictnessLemmas
-pub mod StrengthLemmas
 pub mod FilterLemmas
 pub mod StandsLemmas
 pub mod IndexLemmas

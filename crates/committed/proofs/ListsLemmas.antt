@@ -1,51 +1,19 @@
 -- What lists are of.
-use Rattle.std.proofs.Common.{◌≡◌, ◌<◌, ◌∙◌, arith, ℕ, get_or, Result, Ok, Err, OnErr, refl, sym, ap}
-use Rattle.std.proofs.lemmas.List.{get_or-map}
-use Rattle.std.proofs.lemmas.List.FromFn.{get_or-range_with_len}
-use Rattle.committed.specs.declared.classes.Class.{Class}
-use Rattle.committed.specs.declared.classes.Class.TheVariants.{Deposit, Withdrawal, Refusal, Balance, Count, Raise, Change, Put, Enqueue}
-use Rattle.committed.specs.declared.classes.Class.TheVariants.{Dequeue, Size, Look, Taken}
-use Rattle.committed.specs.Classes.{class_number, classes}
+use Rattle.std.proofs.Common.{◌≡◌, ◌∙◌, List, [], ◌∷◌, true, Result, Ok, Err, OnErr, refl, ap}
+use Rattle.std.proofs.lemmas.Bool.{and_parts}
+use lib.Pointwise.{pointwise}
+use Rattle.objects.specs.contracts.entry.EntryPartialEq.TheImpl as entry_eq
+use Rattle.objects.specs.declared.entry.Entry.{Entry}
+use Rattle.conflicts.proofs.SameLemmas.{same_entry}
 
--- a class is at its number among all
-pub class_at : (c : Class) → get_or classes (class_number c) Deposit ≡ c
-class_at Deposit = refl
-class_at Withdrawal = refl
-class_at Refusal = refl
-class_at Balance = refl
-class_at Count = refl
-class_at Raise = refl
-class_at Change = refl
-class_at Enqueue = refl
-class_at Dequeue = refl
-class_at Size = refl
-class_at Look = refl
-class_at Put = refl
-class_at Taken = refl
-
--- there are thirteen
-pub number-bound : (c : Class) → class_number c < 13
-number-bound Deposit = omega arith
-number-bound Withdrawal = omega arith
-number-bound Refusal = omega arith
-number-bound Balance = omega arith
-number-bound Count = omega arith
-number-bound Raise = omega arith
-number-bound Change = omega arith
-number-bound Enqueue = omega arith
-number-bound Dequeue = omega arith
-number-bound Size = omega arith
-number-bound Look = omega arith
-number-bound Put = omega arith
-number-bound Taken = omega arith
-
--- each at its own
-pub number_at : (n : ℕ) → n < 13 → class_number (get_or classes n Deposit) ≡ n
-number_at n low = omega (arith, get_or-map class_number classes n Deposit 0 low, get_or-range_with_len 0 13 n 0 low)
-
--- classes of one number are one
-pub one_class : (c d : Class) → class_number c ≡ class_number d → c ≡ d
-one_class c d e = sym (class_at c) ∙ ap (λ n. get_or classes n Deposit) e ∙ class_at d
+-- entries that `==` finds equal are the same
+pub same_entries : (xs ys : List Entry) → pointwise entry_eq.ghosts.eq xs ys ≡ true → xs ≡ ys
+same_entries [] [] so = refl
+same_entries [] (y ∷ ys) so = absurd cc
+same_entries (x ∷ xs) [] so = absurd cc
+same_entries (x ∷ xs) (y ∷ ys) so =
+    let parts = and_parts (entry_eq.ghosts.eq x y) (pointwise entry_eq.ghosts.eq xs ys) so in
+    ap (λ z. z ∷ xs) (same_entry x y parts.0) ∙ ap (λ zs. y ∷ zs) (same_entries xs ys parts.1)
 
 -- what holds holds after an error
 pub on_err : {T E P : Type 0} (r : Result T E) → P → OnErr r P

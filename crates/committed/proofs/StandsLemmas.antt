@@ -6,12 +6,12 @@ use Rattle.std.specs.Prelude.{slice_range, if◌then◌else◌}
 use Rattle.atoms.specs.declared.item.Item.{Item}
 use Rattle.objects.specs.declared.entry.Entry.{Entry}
 use Rattle.objects.specs.Entries.{CommutesWith, CommuteForward}
-use Rattle.committed.specs.declared.classes.Class.{Class}
+use Rattle.conflicts.specs.declared.classes.Class.{Class}
 use Rattle.committed.specs.declared.heading.Heading.{Heading}
 use Rattle.committed.specs.declared.index.Index.{Index}
-use Rattle.committed.specs.Classes.{class_of, is_by_item}
+use Rattle.conflicts.specs.Classes.{class_of, is_by_item}
 use Rattle.committed.specs.Headings.{heading_against}
-use Rattle.committed.specs.Items.{operation_item, is_compared}
+use Rattle.conflicts.specs.Items.{operation_item, is_compared}
 use Rattle.committed.specs.Index.{IsLinked, IsListed}
 use Rattle.committed.proofs.FilterLemmas.{same_item, same_object}
 

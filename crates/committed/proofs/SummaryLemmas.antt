@@ -8,11 +8,11 @@ use Rattle.objects.specs.declared.entry.Entry.{Entry}
 use Rattle.committed.specs.declared.marks.MarkedEntry.{MarkedEntry}
 use Rattle.objects.specs.Entries.{CommutesWith, AllCommute, CommuteForward}
 use Rattle.objects.proofs.ListLemmas.{all_commute_none}
-use Rattle.committed.specs.Strictness.{AreAsStrict, AreCovered, IsCovered, covers, strength_of}
-use Rattle.committed.specs.Summaries.{entries_of, strengths_of, IsSummary}
-use Rattle.committed.specs.declared.strength.Strength.{Strength}
+use Rattle.conflicts.specs.Strictness.{AreAsStrict, covers, strength_of}
+use Rattle.committed.specs.Summaries.{entries_of, strengths_of, AreCovered, IsCovered, IsSummary}
+use Rattle.conflicts.specs.declared.strength.Strength.{Strength}
 use Rattle.committed.proofs.StandsLemmas.{commute_turned, one_commutes}
-use Rattle.committed.proofs.StrengthLemmas.{given_strict}
+use Rattle.conflicts.proofs.StrengthLemmas.{given_strict}
 
 -- what commutes with all of two lists commutes with all of both
 pub commutes_both : (e : Entry) (xs ys : List Entry) → CommutesWith e xs → CommutesWith e ys → CommutesWith e (xs ++ ys)

@@ -3,7 +3,7 @@ use Rattle.std.specs.Prelude.{◌≡◌, ◌⊎◌, List, ℕ, ◌-◌, ◌<◌,
 use Rattle.std.specs.Int.{bit_at}
 use Rattle.objects.specs.declared.entry.Entry.{Entry}
 use Rattle.committed.specs.declared.filter.Filter.{Filter}
-use Rattle.committed.specs.Classes.{class_of, class_number}
+use Rattle.conflicts.specs.Classes.{class_of, class_number}
 use Rattle.committed.specs.Marks.{mark_of}
 use Rattle.objects.specs.Entries.{CommuteForward}
 

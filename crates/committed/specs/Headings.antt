@@ -1,10 +1,10 @@
 -- Headings: what entries are listed under. No public contract names them.
 use Rattle.std.specs.Prelude.{None, if◌then◌else◌}
 use Rattle.objects.specs.declared.entry.Entry.{Entry}
-use Rattle.committed.specs.declared.classes.Class.{Class}
+use Rattle.conflicts.specs.declared.classes.Class.{Class}
 use Rattle.committed.specs.declared.heading.Heading.{Heading}
-use Rattle.committed.specs.Classes.{class_of, is_by_item}
-use Rattle.committed.specs.Items.{operation_item}
+use Rattle.conflicts.specs.Classes.{class_of, is_by_item}
+use Rattle.conflicts.specs.Items.{operation_item}
 
 -- what an entry is listed under
 abbrev pub heading_of : Entry → Heading

@@ -9,7 +9,7 @@ use Rattle.committed.specs.declared.index.Index.{Index}
 use Rattle.committed.specs.declared.index.TheConstants.{MOST_LISTED}
 use Rattle.committed.specs.declared.index.Link.{Link}
 use Rattle.committed.specs.Headings.{heading_of, of_object}
-use Rattle.committed.specs.Strictness.{IsAsStrict}
+use Rattle.conflicts.specs.Strictness.{IsAsStrict}
 
 -- the number of a heading: how many came before it, which for a new one is how many there are
 abbrev pub number_of : Index → Heading → ℕ

@@ -1,6 +1,3 @@
-pub mod Classes
-pub mod Items
-pub mod Strictness
 pub mod Headings
 pub mod Index
 pub mod Marks

@@ -3,8 +3,8 @@ use Rattle.std.specs.Prelude.{ℕ, ◌+◌, ◌*◌, ◌/◌, ◌%◌, ◌^◌, 
 use Rattle.atoms.specs.declared.item.Item.{Item}
 use Rattle.objects.specs.declared.entry.Entry.{Entry}
 use Rattle.committed.specs.declared.marks.Mark.{Mark}
-use Rattle.committed.specs.Classes.{class_of, class_number, conflicts_of}
-use Rattle.committed.specs.Items.{operation_item}
+use Rattle.conflicts.specs.Classes.{class_of, class_number, conflicts_of}
+use Rattle.conflicts.specs.Items.{operation_item}
 
 -- a number of an item, 0 where there is none
 abbrev pub item_number : Option Item → ℕ

@@ -2,17 +2,16 @@
 ghost use Rattle.std.specs.Prelude.{◌≡◌, ◌↔◌, ◌+◌, ◌<◌, ◌≤◌, ℕ, [], ◌++◌, length, take, slice_index_or, vec_len, vec_capacity, IsTrue, OnOk, OnErr};
 ghost use Rattle.objects.specs.Entries.{CommutesWith, AllCommute, CommuteForward};
 ghost use Rattle.committed.specs.Marks.{mark_of};
-ghost use Rattle.committed.specs.Strictness.{IsCovered};
-ghost use Rattle.committed.specs.Summaries.{entries_of, IsSummary};
+ghost use Rattle.committed.specs.Summaries.{entries_of, IsCovered, IsSummary};
 ghost use Rattle.committed.specs.Filter.{IsFilterOf, Meets};
 ghost use Rattle.committed.specs.Index.{IsIndexOf, IsAllListed, IndexHasRoom};
 
-use crate::classes::Class;
 use crate::filter::Filter;
 use crate::heading::Heading;
 use crate::index::Index;
 use crate::marks::{Mark, MarkedEntry};
 use crate::summary::mark_all;
+use conflicts::Class;
 use objects::{Entry, EntryHashing, commute};
 use serial::NoMemory;
 use std::alloc::Global;

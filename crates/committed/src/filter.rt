@@ -6,8 +6,8 @@ ghost use Rattle.objects.specs.declared.entry.Entry.{Entry as OneEntry};
 ghost use Rattle.committed.specs.Marks.{mark_of};
 ghost use Rattle.committed.specs.Filter.{slot_of, set_at, HasAll, IsMarked, IsFilterOf, Meets};
 
-use crate::classes::Class;
 use crate::marks::Mark;
+use conflicts::Class;
 use objects::Entry;
 use serial::NoMemory;
 use std::alloc::Global;

@@ -2,9 +2,8 @@
 ghost use Rattle.std.specs.Prelude.{◌≡◌, is_some};
 ghost use Rattle.committed.specs.Headings.{heading_of, of_object, heading_against};
 
-use crate::classes::Class;
-use crate::items::operation_item;
 use atoms::Item;
+use conflicts::{Class, operation_item};
 use objects::Entry;
 
 /// An object, an item or none, and a class.

@@ -8,11 +8,11 @@
 ghost use Rattle.std.specs.Prelude.{◌≡◌, ◌<◌, ◌≤◌, ◌+◌, ◌-◌, ◌^◌, ℕ, [], min, length, vec_len, vec_capacity, IsTrue, OnOk};
 ghost use Rattle.indexmap.specs.IndexMap.{hasher_of, spare};
 ghost use Rattle.committed.specs.declared.index.TheConstants.{MOST_LISTED};
-ghost use Rattle.committed.specs.Strictness.{IsCovered};
+ghost use Rattle.committed.specs.Summaries.{IsCovered};
 ghost use Rattle.committed.specs.Index.{number_of, link_at, IsBehind, IsLastOf, AreUpTo, IsNextLink, IsNextSpan, AreLinks, AreSpans, HasLasts, IsLinked, KeepsLinked, IsListedAt, IsIndexOf, StaysIndex, IndexHasRoom, IsLastBelow, CommutesUnder};
 
 use crate::heading::Heading;
-use crate::strictness::is_as_strict;
+use conflicts::is_as_strict;
 use indexmap::IndexMap;
 use objects::{Entry, EntryHashing, commute};
 use serial::NoMemory;

@@ -4,16 +4,12 @@
 //! "Commutativity-based concurrency control for abstract data types", 1988) with a part of it.
 #![tactic(auto)]
 
-mod classes;
 mod committed;
 mod filter;
 mod heading;
 mod index;
-mod items;
 mod marks;
 mod span;
-mod strength;
-mod strictness;
 mod summary;
 
 pub use committed::Committed;

@@ -2,9 +2,8 @@
 ghost use Rattle.std.specs.Prelude.{◌≡◌};
 ghost use Rattle.committed.specs.Marks.{hash_of, mark_of};
 
-use crate::classes::Class;
-use crate::items::operation_item;
 use atoms::Item;
+use conflicts::{Class, operation_item};
 use objects::Entry;
 
 /// A digest of an entry. It is made once, however often the entry is compared.

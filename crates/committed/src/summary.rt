@@ -2,13 +2,12 @@
 ghost use Rattle.std.specs.Prelude.{◌≡◌, ◌<◌, ◌≤◌, ◌++◌, ◌∷◌, [], List, length, get_or, IfOk, IfSome, IsTrue, OnOk};
 ghost use Rattle.objects.specs.declared.entry.Entry.{Entry as OneEntry};
 ghost use Rattle.committed.specs.Spans.{AreIn};
-ghost use Rattle.committed.specs.Strictness.{strength_of, AreCovered};
-ghost use Rattle.committed.specs.Summaries.{entries_of, strengths_of, HasMore, IsSummary};
+ghost use Rattle.conflicts.specs.Strictness.{strength_of};
+ghost use Rattle.committed.specs.Summaries.{entries_of, strengths_of, HasMore, AreCovered, IsSummary};
 
 use crate::marks::MarkedEntry;
 use crate::span::Span;
-use crate::strength::{Strength, Topic};
-use crate::strictness::{Measured, are_as_strict};
+use conflicts::{Measured, Strength, Topic, are_as_strict};
 use indexmap::IndexMap;
 use objects::{Entry, EntryHashing};
 use serial::NoMemory;

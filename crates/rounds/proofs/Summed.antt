@@ -1,15 +1,10 @@
 -- Pending runs that have the sums of runs conflict where these do.
-use Rattle.std.proofs.Common.{◌≡◌, ℕ, zero, suc, ◌+◌, ◌<◌, ◌≤◌, ◌↔◌, List, [], ◌∷◌, ◌++◌, length, get_or, take, true, refl, sym, ap, ◌∙◌}
+use Rattle.std.proofs.Common.{◌≡◌, ℕ, zero, suc, ◌+◌, ◌<◌, ◌≤◌, ◌↔◌, List, [], ◌∷◌, ◌++◌, length, get_or, take, sym, ap, ◌∙◌}
 use Rattle.std.proofs.Common.{subst, arith}
 use Rattle.std.proofs.lemmas.List.{length_push, length-take-le, get_or-take, get_or_default}
 use Rattle.std.proofs.Math.Seq.{get_or-append_seam}
 use Rattle.std.proofs.Math.ListN.{get_or-append}
-use Rattle.std.proofs.lemmas.Bool.{and_parts}
-use lib.Pointwise.{pointwise}
 use native.Mathlib.Decide.{dec_le}
-use Rattle.objects.specs.contracts.entry.EntryPartialEq.TheImpl as entry_eq
-use Rattle.objects.specs.declared.entry.Entry.{Entry}
-use Rattle.committed.proofs.SameLemmas.{same_entry}
 use Rattle.committed.specs.Summaries.{entries_of, IsSummary}
 use Rattle.committed.proofs.SummaryLemmas.{stands-summary, past-summary, summary-append, summary-nil}
 use Rattle.speculate.specs.declared.speculated.Run.{Run}
@@ -19,15 +14,6 @@ use Rattle.rounds.specs.PendingRuns.{left_by, AreSumsOf, AreSummed, all_left, Ho
 use Rattle.rounds.specs.Checks.{IsSeenPast}
 use Rattle.rounds.specs.declared.check.FirstConflict.{FirstConflict}
 use Rattle.rounds.proofs.Conflicts.{some_run}
-
--- entries that `==` finds equal are the same
-pub same_entries : (xs ys : List Entry) → pointwise entry_eq.ghosts.eq xs ys ≡ true → xs ≡ ys
-same_entries [] [] so = refl
-same_entries [] (y ∷ ys) so = absurd cc
-same_entries (x ∷ xs) [] so = absurd cc
-same_entries (x ∷ xs) (y ∷ ys) so =
-    let parts = and_parts (entry_eq.ghosts.eq x y) (pointwise entry_eq.ghosts.eq xs ys) so in
-    ap (λ z. z ∷ xs) (same_entry x y parts.0) ∙ ap (λ zs. y ∷ zs) (same_entries xs ys parts.1)
 
 -- the sums of one run more
 pub summed_more : (runs : List Run) (pending more : List PendingRun) (k : ℕ) (next : PendingRun) (run : Run) → k < length runs

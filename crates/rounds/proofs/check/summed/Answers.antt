@@ -1,6 +1,7 @@
 use Rattle.std.proofs.Common.{sym, ◌∙◌, subst}
 use Rattle.rounds.specs.PendingRuns.{AreSumsOf}
-use Rattle.rounds.proofs.Summed.{same_entries, summed_more}
+use Rattle.committed.proofs.ListsLemmas.{same_entries}
+use Rattle.rounds.proofs.Summed.{summed_more}
 use Rattle.rounds.proofs.check.summed.Goals as goal
 
 pub renew-requires : goal.renew-requires

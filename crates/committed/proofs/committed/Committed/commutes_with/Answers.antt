@@ -3,7 +3,7 @@ use Rattle.std.proofs.lemmas.Bool.{eq-eqb}
 use Rattle.std.proofs.lemmas.Nat.Bits.{bit_at-zero}
 use Rattle.std.specs.Int.{bit_at}
 use Rattle.objects.specs.declared.entry.Entry.{Entry}
-use Rattle.committed.specs.Classes.{class_of, class_number}
+use Rattle.conflicts.specs.Classes.{class_of, class_number}
 use Rattle.committed.specs.Filter.{IsMarked}
 use Rattle.objects.specs.Entries.{CommuteForward}
 use Rattle.committed.proofs.StandsLemmas.{all_first}

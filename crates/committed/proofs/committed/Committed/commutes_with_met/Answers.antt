@@ -1,13 +1,13 @@
 use Rattle.std.proofs.Common.{◌≡◌, List, Bool, true, false, arith, refl, sym, ap, ◌∙◌, subst, get_or, inl, inr}
 use Rattle.std.proofs.lemmas.Bool.{cases_lt, false≢true}
 use Rattle.objects.specs.declared.entry.Entry.{Entry}
-use Rattle.committed.specs.declared.classes.Class.{Class}
-use Rattle.committed.specs.Classes.{class_of}
-use Rattle.committed.specs.Items.{is_compared}
+use Rattle.conflicts.specs.declared.classes.Class.{Class}
+use Rattle.conflicts.specs.Classes.{class_of}
+use Rattle.conflicts.specs.Items.{is_compared}
 use Rattle.committed.specs.Headings.{heading_against}
 use Rattle.committed.specs.Index.{IsLinked, IsListed}
 use Rattle.objects.specs.Entries.{CommuteForward}
-use Rattle.committed.proofs.ClassesLemmas.{elsewhere}
+use Rattle.conflicts.proofs.ClassesLemmas.{elsewhere}
 use Rattle.committed.proofs.StandsLemmas.{all_first, each_first, linked_against}
 use Rattle.committed.proofs.committed.Committed.commutes_with_met.Goals as goal
 

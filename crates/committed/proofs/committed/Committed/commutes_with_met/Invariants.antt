@@ -1,6 +1,6 @@
 use Rattle.std.proofs.Common.{◌≡◌, ℕ, ◌<◌, get_or}
 use Rattle.std.specs.Int.{bit_at}
-use Rattle.committed.specs.Classes.{class_of, class_number}
+use Rattle.conflicts.specs.Classes.{class_of, class_number}
 use Rattle.objects.specs.Entries.{CommuteForward}
 use Rattle.committed.proofs.committed.Committed.commutes_with_met.Given as goal
 

@@ -3,7 +3,7 @@ use Rattle.std.proofs.lemmas.List.{get_or_default}
 use Rattle.objects.specs.declared.entry.Entry.{Entry}
 use Rattle.committed.specs.declared.index.Link.{Link}
 use Rattle.committed.specs.Index.{link_at, IsSpan}
-use Rattle.committed.specs.Strictness.{IsAsStrict}
+use Rattle.conflicts.specs.Strictness.{IsAsStrict}
 use Rattle.committed.proofs.IndexLemmas.{span_joined}
 use Rattle.committed.proofs.index.Index.next.Goals as goal
 

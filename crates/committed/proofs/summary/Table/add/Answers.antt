@@ -2,7 +2,7 @@ use Rattle.std.proofs.Common.{◌≡◌, ◌<◌, length, set, sym, ap, ◌∙�
 use Rattle.std.proofs.lemmas.List.{map-set}
 use Rattle.committed.specs.declared.marks.MarkedEntry.{MarkedEntry}
 use Rattle.committed.specs.declared.summary.Table.{Table}
-use Rattle.committed.specs.Strictness.{strength_of}
+use Rattle.conflicts.specs.Strictness.{strength_of}
 use Rattle.committed.specs.Summaries.{entries_of, strengths_of, IsSummary}
 use Rattle.committed.proofs.SummaryLemmas.{summary_covered, summary_left, summary_set, summary_more}
 use Rattle.committed.proofs.summary.Table.add.Goals as goal

@@ -28,10 +28,10 @@ use Rattle.objects.specs.declared.call.Reply.{Reply}
 use Rattle.objects.specs.declared.call.Reply.TheVariants as reply
 use Rattle.objects.specs.declared.entry.Entry.{Entry}
 use Rattle.objects.proofs.CommuteLemmas.{entries_exact}
-use Rattle.committed.specs.declared.classes.Class.{Class}
-use Rattle.committed.specs.Classes.{account_class, counter_class, set_class, queue_class, key_class, max_class, class_of, always_commute}
-use Rattle.committed.specs.Classes.{is_by_item}
-use Rattle.committed.specs.Items.{set_item, taken_item, operation_item, is_same_item, is_compared}
+use Rattle.conflicts.specs.declared.classes.Class.{Class}
+use Rattle.conflicts.specs.Classes.{account_class, counter_class, set_class, queue_class, key_class, max_class, class_of, always_commute}
+use Rattle.conflicts.specs.Classes.{is_by_item}
+use Rattle.conflicts.specs.Items.{set_item, taken_item, operation_item, is_same_item, is_compared}
 use Rattle.objects.specs.Entries.{CommuteForward}
 
 -- ---- what the table of each kind says by classes

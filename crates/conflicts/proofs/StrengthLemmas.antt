@@ -40,11 +40,11 @@ use Rattle.objects.specs.declared.call.Call.TheVariants as call
 use Rattle.objects.specs.declared.call.Reply.{Reply}
 use Rattle.objects.specs.declared.call.Reply.TheVariants as reply
 use Rattle.objects.specs.declared.entry.Entry.{Entry}
-use Rattle.committed.specs.declared.strength.Strength.{Strength}
-use Rattle.committed.specs.Strictness.{IsAsStrict, EffectsAreAsStrict, account_strength, counter_strength, set_strength, queue_strength}
-use Rattle.committed.specs.Strictness.{key_strength, directory_strength, max_strength, strength_at, strength_of, is_within, covers}
-use Rattle.committed.proofs.StrictnessLemmas.{OperationsAreAsStrict, accounts_strict, counters_strict, sets_strict, queues_strict}
-use Rattle.committed.proofs.StrictnessLemmas.{directories_strict, registers_strict, strict_together}
+use Rattle.conflicts.specs.declared.strength.Strength.{Strength}
+use Rattle.conflicts.specs.Strictness.{IsAsStrict, EffectsAreAsStrict, account_strength, counter_strength, set_strength, queue_strength}
+use Rattle.conflicts.specs.Strictness.{key_strength, directory_strength, max_strength, strength_at, strength_of, is_within, covers}
+use Rattle.conflicts.proofs.StrictnessLemmas.{OperationsAreAsStrict, accounts_strict, counters_strict, sets_strict, queues_strict}
+use Rattle.conflicts.proofs.StrictnessLemmas.{directories_strict, registers_strict, strict_together}
 
 -- ---- the effects of one kind
 

@@ -1,8 +1,8 @@
 //! Classes of operations that always commute forward, whatever their arguments and replies are.
 ghost use Rattle.std.specs.Prelude.{◌≡◌, ◌<◌, ◌^◌, ◌⊎◌, IfSome, IsNone};
 ghost use Rattle.std.specs.Int.{bit_at};
-ghost use Rattle.committed.specs.declared.classes.Class.{Class as OneClass};
-ghost use Rattle.committed.specs.Classes.{account_class, counter_class, set_class, queue_class, key_class, max_class, class_of, class_number, conflicts_of, is_by_item};
+ghost use Rattle.conflicts.specs.declared.classes.Class.{Class as OneClass};
+ghost use Rattle.conflicts.specs.Classes.{account_class, counter_class, set_class, queue_class, key_class, max_class, class_of, class_number, conflicts_of, is_by_item};
 
 use atoms::{
     Account, AccountEffect, Counter, CounterEffect, Directory, ItemSet, KeyEffect, MaxEffect,

@@ -3,9 +3,9 @@ use Rattle.std.proofs.lemmas.Bool.{cases_eq}
 use Rattle.std.proofs.lemmas.Nat.{and_le_l}
 use Rattle.std.proofs.lemmas.Nat.Bits.{bit_at_and, bit_at_not, bit_at-pow_same, bit_at-pow_other}
 use Rattle.std.specs.Int.{bit_at}
-use Rattle.committed.specs.Classes.{class_number}
-use Rattle.committed.proofs.ListsLemmas.{number-bound, one_class}
-use Rattle.committed.proofs.classes.Class.taken_from.Goals as goal
+use Rattle.conflicts.specs.Classes.{class_number}
+use Rattle.conflicts.proofs.ClassNumbers.{number-bound, one_class}
+use Rattle.conflicts.proofs.classes.Class.taken_from.Goals as goal
 
 pub returns-clause-less : goal.returns-clause-less
 returns-clause-less c =

@@ -1,7 +1,7 @@
 use Rattle.std.proofs.Common.{sym, ap, ◌∙◌}
-use Rattle.committed.specs.Strictness.{strength_of, covers}
-use Rattle.committed.proofs.StrengthLemmas.{given_strict}
-use Rattle.committed.proofs.strictness.is_as_strict.Goals as goal
+use Rattle.conflicts.specs.Strictness.{strength_of, covers}
+use Rattle.conflicts.proofs.StrengthLemmas.{given_strict}
+use Rattle.conflicts.proofs.strictness.is_as_strict.Goals as goal
 
 pub returns-clause-strict : goal.returns-clause-strict
 returns-clause-strict c h = given_strict c.args.first.now c.args.second.now c.of.result c.of-2.result c.of.ensures c.of-2.ensures

@@ -1,5 +1,5 @@
 -- Which of two entries commutes forward with less. No public contract names it.
-use Rattle.std.specs.Prelude.{◌≡◌, List, ℕ, ◌+◌, ◌&&◌, ◌==◌, Bool, nat_le, if◌then◌else◌, IsTrue}
+use Rattle.std.specs.Prelude.{ℕ, ◌+◌, ◌&&◌, ◌==◌, Bool, nat_le, if◌then◌else◌, IsTrue}
 use Rattle.atoms.specs.Account.{account_effect}
 use Rattle.atoms.specs.Counter.{counter_effect}
 use Rattle.atoms.specs.ItemSet.{set_effect}
@@ -24,9 +24,9 @@ use Rattle.objects.specs.declared.call.Call.TheVariants as call
 use Rattle.objects.specs.declared.call.Reply.{Reply}
 use Rattle.objects.specs.declared.call.Reply.TheVariants as reply
 use Rattle.objects.specs.declared.entry.Entry.{Entry}
-use Rattle.objects.specs.Entries.{CommuteForward, CommutesWith}
-use Rattle.committed.specs.declared.strength.Strength.{Strength}
-use Rattle.committed.specs.declared.strength.Topic.{Topic}
+use Rattle.objects.specs.Entries.{CommuteForward}
+use Rattle.conflicts.specs.declared.strength.Strength.{Strength}
+use Rattle.conflicts.specs.declared.strength.Topic.{Topic}
 
 -- what commutes forward with the first commutes forward with the second
 abbrev pub IsAsStrict : Entry → Entry → Type 0
@@ -35,10 +35,6 @@ IsAsStrict first second = (e : Entry) → CommuteForward e first → CommuteForw
 -- what commutes forward with the first and the second commutes forward with the third
 abbrev pub AreAsStrict : Entry → Entry → Entry → Type 0
 AreAsStrict first second third = (e : Entry) → CommuteForward e first → CommuteForward e second → CommuteForward e third
-
--- what commutes forward with all of these entries commutes forward with this one
-abbrev pub IsCovered : List Entry → Entry → Type 0
-IsCovered entries e = (other : Entry) → CommutesWith other entries → CommuteForward other e
 
 -- of effects, by their table: what commutes with the first and the second commutes with the third
 abbrev pub EffectsAreAsStrict : {Effect : Type 0} → (Effect → Effect → Bool) → Effect → Effect → Effect → Type 0
@@ -131,10 +127,6 @@ is_within s t = s.variant == t.variant && (s.item == t.item && (nat_le s.least t
 
 abbrev pub covers : Strength → Strength → Bool
 covers s t = s.object == t.object && (s.kind == t.kind && is_within s t)
-
--- what commutes forward with all of these entries commutes forward with each entry of this strength
-abbrev pub AreCovered : List Entry → Strength → Type 0
-AreCovered entries strength = (e : Entry) → strength_of e ≡ strength → IsCovered entries e
 
 -- what an entry of the strength is about: its object and its item, or its object and effect where it is about no item
 abbrev pub topic_of : Strength → Topic

@@ -1,8 +1,8 @@
 use Rattle.atoms.specs.ItemSet.{set_effects_commute}
 use Rattle.atoms.specs.Queue.{queue_effects_commute}
 use Rattle.atoms.specs.Directory.{directory_effects_commute}
-use Rattle.committed.proofs.StrictnessLemmas.{sets_strict, queues_strict, directories_strict, strict_together, as_those, as_effects}
-use Rattle.committed.proofs.strictness.together_as_strict.Goals as goal
+use Rattle.conflicts.proofs.StrictnessLemmas.{sets_strict, queues_strict, directories_strict, strict_together, as_those, as_effects}
+use Rattle.conflicts.proofs.strictness.together_as_strict.Goals as goal
 
 pub returns-in-Set-Set-Set-Set-Set-Set :
     goal.returns-in-Set-Set-Set-Set-Set-Set

@@ -3,7 +3,7 @@ ghost use Rattle.std.specs.Prelude.{◌≡◌, IsTrue};
 ghost use Rattle.atoms.specs.ItemSet.{set_effects_commute};
 ghost use Rattle.atoms.specs.Queue.{queue_effects_commute};
 ghost use Rattle.atoms.specs.Directory.{key_effects_commute, directory_effects_commute};
-ghost use Rattle.committed.specs.Strictness.{IsAsStrict, AreAsStrict, EffectsAreAsStrict, strength_of, covers};
+ghost use Rattle.conflicts.specs.Strictness.{IsAsStrict, AreAsStrict, EffectsAreAsStrict, strength_of, covers};
 
 use crate::items::set_item;
 use crate::strength::Strength;

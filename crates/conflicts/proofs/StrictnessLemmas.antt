@@ -27,7 +27,7 @@ use Rattle.objects.specs.declared.call.Reply.TheVariants as reply
 use Rattle.objects.specs.declared.entry.Entry.{Entry}
 use Rattle.objects.specs.Entries.{CommuteForward}
 use Rattle.objects.proofs.CommuteLemmas.{entries_exact}
-use Rattle.committed.specs.Strictness.{AreAsStrict, EffectsAreAsStrict}
+use Rattle.conflicts.specs.Strictness.{AreAsStrict, EffectsAreAsStrict}
 
 -- what commutes with two operations commutes with a third
 abbrev pub OperationsAreAsStrict : Call → Reply → Call → Reply → Call → Reply → Type 0

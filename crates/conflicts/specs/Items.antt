@@ -13,7 +13,7 @@ use Rattle.objects.specs.declared.call.Call.TheVariants.{Set, Queue, Directory}
 use Rattle.objects.specs.declared.call.Reply.{Reply}
 use Rattle.objects.specs.declared.call.Reply.TheVariants as reply
 use Rattle.objects.specs.declared.entry.Entry.{Entry}
-use Rattle.committed.specs.Classes.{class_of, is_by_item}
+use Rattle.conflicts.specs.Classes.{class_of, is_by_item}
 
 abbrev pub set_item : SetEffect → Option Item
 set_item (WasAdded x) = Some x

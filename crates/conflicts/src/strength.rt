@@ -5,7 +5,7 @@
 //! range goes up to it. An item or a size is a range of one number, so that only the same one is as
 //! strict. Where numbers make no difference, the range is that of 0.
 ghost use Rattle.std.specs.Prelude.{◌≡◌, ◌+◌};
-ghost use Rattle.committed.specs.Strictness.{strength_of, account_strength, counter_strength, set_strength, queue_strength, directory_strength, key_strength, max_strength, digest, covers, topic_of};
+ghost use Rattle.conflicts.specs.Strictness.{strength_of, account_strength, counter_strength, set_strength, queue_strength, directory_strength, key_strength, max_strength, digest, covers, topic_of};
 
 use atoms::{
     Account, AccountEffect, Counter, CounterEffect, Directory, DirectoryEffect, Item, ItemSet,

@@ -3,9 +3,9 @@ use Rattle.std.proofs.lemmas.Bool.{cases_eq}
 use Rattle.std.proofs.lemmas.Nat.Bits.{bit_at-trailing_zeros, bit_at-zero}
 use Rattle.std.specs.Int.{bit_at, trailing_zeros}
 use Rattle.std.specs.Int.Count.{trailing_of_zero}
-use Rattle.committed.specs.Classes.{class_number}
-use Rattle.committed.proofs.ListsLemmas.{number_at, number-bound}
-use Rattle.committed.proofs.classes.Class.first_of.Goals as goal
+use Rattle.conflicts.specs.Classes.{class_number}
+use Rattle.conflicts.proofs.ClassNumbers.{number_at, number-bound}
+use Rattle.conflicts.proofs.classes.Class.first_of.Goals as goal
 
 pub returns-then-number-lt13-clause-some : goal.returns-then-number-lt13-clause-some
 returns-then-number-lt13-clause-some c =

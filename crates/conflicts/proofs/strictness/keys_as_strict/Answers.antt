@@ -1,5 +1,5 @@
 use Rattle.std.proofs.Common.{rules}
-use Rattle.committed.proofs.strictness.keys_as_strict.Goals as goal
+use Rattle.conflicts.proofs.strictness.keys_as_strict.Goals as goal
 
 pub returns-after-matches : goal.returns-after-matches
 returns-after-matches c = search rules

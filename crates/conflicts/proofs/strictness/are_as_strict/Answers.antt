@@ -1,9 +1,9 @@
 use Rattle.std.proofs.Common.{sym, ◌∙◌}
 use Rattle.std.proofs.lemmas.Bool.{eqb-true, false≢true}
-use Rattle.committed.proofs.StrengthLemmas.{given_strict}
-use Rattle.committed.proofs.strictness.are_as_strict.Goals as goal
-use Rattle.committed.proofs.strictness.are_as_strict.Goals.{then-covers, else-covers, then-is_paired, else-is_paired}
-use Rattle.committed.proofs.strictness.are_as_strict.Goals.{then-first-third, else-first-third}
+use Rattle.conflicts.proofs.StrengthLemmas.{given_strict}
+use Rattle.conflicts.proofs.strictness.are_as_strict.Goals as goal
+use Rattle.conflicts.proofs.strictness.are_as_strict.Goals.{then-covers, else-covers, then-is_paired, else-is_paired}
+use Rattle.conflicts.proofs.strictness.are_as_strict.Goals.{then-first-third, else-first-third}
 
 pub returns-then-covers-2 : goal.returns-then-covers-2
 returns-then-covers-2 c =

@@ -1,6 +1,6 @@
 //! The items that operations are about.
 ghost use Rattle.std.specs.Prelude.{◌≡◌};
-ghost use Rattle.committed.specs.Items.{operation_item, set_item, taken_item};
+ghost use Rattle.conflicts.specs.Items.{operation_item, set_item, taken_item};
 
 use atoms::{Directory, Item, ItemSet, Queue, QueueEffect, SetEffect};
 use objects::{Call, Reply};

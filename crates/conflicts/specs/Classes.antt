@@ -22,9 +22,9 @@ use Rattle.objects.specs.declared.call.Call.{Call}
 use Rattle.objects.specs.declared.call.Call.TheVariants as call
 use Rattle.objects.specs.declared.call.Reply.{Reply}
 use Rattle.objects.specs.declared.call.Reply.TheVariants as reply
-use Rattle.committed.specs.declared.classes.Class.{Class}
-use Rattle.committed.specs.declared.classes.Class.TheVariants.{Deposit, Withdrawal, Refusal, Balance, Count, Raise, Change, Put, Enqueue}
-use Rattle.committed.specs.declared.classes.Class.TheVariants.{Dequeue, Size, Look, Taken}
+use Rattle.conflicts.specs.declared.classes.Class.{Class}
+use Rattle.conflicts.specs.declared.classes.Class.TheVariants.{Deposit, Withdrawal, Refusal, Balance, Count, Raise, Change, Put, Enqueue}
+use Rattle.conflicts.specs.declared.classes.Class.TheVariants.{Dequeue, Size, Look, Taken}
 
 abbrev pub account_class : AccountEffect → Class
 account_class (account.Deposited a) = Deposit

@@ -1,0 +1,5 @@
+pub mod ClassNumbers
+pub mod SameLemmas
+pub mod ClassesLemmas
+pub mod StrictnessLemmas
+pub mod StrengthLemmas
