@@ -2,7 +2,7 @@
 ghost use Rattle.std.specs.Prelude.{◌≡◌, ◌↔◌, IsTrue, Some, IfOk, IfSome, IsSome, IsNone, OnErr};
 ghost use Rattle.objects.specs.Objects.{kind_of_value, kind_of_call, one_value, HasRoom, KeepsItems};
 ghost use Rattle.objects.specs.Changes.{value_change};
-ghost use Rattle.drafts.specs.ShownValue.{shown_value};
+ghost use Rattle.drafts.specs.Shown.{shown_value};
 
 use crate::Draft;
 use objects::{Call, Reply, Value};

@@ -1,10 +1,17 @@
 -- The operations of a run in memory. No public contract names it.
-use Rattle.std.specs.Prelude.{◌≡◌, ◌++◌, List, map, string_bytes}
+use Rattle.std.specs.Prelude.{◌≡◌, ◌++◌, Bool, true, false, List, map, string_bytes}
 use Rattle.explain.specs.Why.{Placed}
+use Rattle.explain.specs.declared.places.Fate.{Fate}
+use Rattle.explain.specs.declared.places.Fate.TheVariants.{Stays, TakenBack}
 use Rattle.explain.specs.declared.places.PlacedOperation.{PlacedOperation}
 
+-- whether the run leaves an operation with this fate
+abbrev pub is_left : Fate → Bool
+is_left Stays = true
+is_left TakenBack = false
+
 abbrev pub place_view : PlacedOperation → Placed
-place_view place = record { path = string_bytes place.path; entry = place.entry; left = place.left }
+place_view place = record { path = string_bytes place.path; entry = place.entry; left = is_left place.fate }
 
 abbrev pub places_view : List PlacedOperation → List Placed
 places_view places = map place_view places

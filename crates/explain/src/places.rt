@@ -4,7 +4,7 @@ ghost use Rattle.std.specs.Fmt.{decimal};
 ghost use Rattle.batch.specs.Names.{names_of};
 ghost use Rattle.batch.specs.Views.{block_view, record_view, step_view, taken_view, subaction_view, tried_view, children_view, all_tried_view};
 ghost use Rattle.explain.specs.Why.{has_ended, placed, placed_step, placed_child, placed_children};
-ghost use Rattle.explain.specs.Places.{places_view, AreAdded};
+ghost use Rattle.explain.specs.Places.{places_view, is_left, AreAdded};
 
 use batch::{Block, Names, Record, Step, Subaction, Taken};
 use meaning::End;
@@ -13,21 +13,62 @@ use report::{branch_path, handler_place, part_path, reason_of};
 use serial::NoMemory;
 use std::alloc::Global;
 
-/// An operation of a run with the path of its step, and whether the run leaves it.
+/// What becomes of an operation of a run.
+#[derive(Clone, Copy, Debug, Drop)]
+pub(crate) enum Fate {
+    /// The run leaves it.
+    Stays,
+    /// An abort takes it back.
+    TakenBack,
+}
+
+/// An operation of a run with the path of its step, and what becomes of it.
 #[derive(Debug, Drop)]
 pub(crate) struct PlacedOperation {
     pub(crate) path: String,
     pub(crate) entry: Entry,
-    pub(crate) left: bool,
+    pub(crate) fate: Fate,
 }
 
-// Where operations are placed: the path that they are under, the names of their batch, and whether
-// the run leaves them.
+// Where operations are placed: the path that they are under, the names of their batch, and what
+// becomes of them.
 #[derive(Clone, Copy, Drop)]
 struct Spot<'a> {
     names: &'a Names,
     path: &'a str,
-    left: bool,
+    fate: Fate,
+}
+
+impl Fate {
+    // That of what a block did which ended so.
+    fn of(outcome: End) -> Fate
+        ensures { is_left result ≡ has_ended outcome }
+    {
+        match outcome {
+            End::Ended => Fate::Stays,
+            End::Aborted(_) => Fate::TakenBack,
+        }
+    }
+
+    // That of what a body did which ended so, inside of a block with this fate.
+    fn of_body(self, outcome: End) -> Fate
+        ensures { is_left result ≡ (is_left self && has_ended outcome) }
+    {
+        match self {
+            Fate::Stays => Fate::of(outcome),
+            Fate::TakenBack => Fate::TakenBack,
+        }
+    }
+
+    /// Whether the run leaves the operation.
+    pub(crate) fn is_left(self) -> bool
+        ensures { result ≡ is_left self }
+    {
+        match self {
+            Fate::Stays => true,
+            Fate::TakenBack => false,
+        }
+    }
 }
 
 /// The operations of the run of the transaction of this number, in order.
@@ -47,7 +88,7 @@ pub(crate) fn places_of(
     let spot = Spot {
         names,
         path: path.as_str(),
-        left: has_ended(done.outcome),
+        fate: Fate::of(done.outcome),
     };
     place_block(alloc, &mut places, spot, block, done)?;
     Ok(places)
@@ -62,7 +103,7 @@ fn place_block(
     done: &Record,
 ) -> Result<(), NoMemory>
     ensures { OnOk result (AreAdded places.old.items places.new.items
-        (placed (names_of spot.entry.names.now) spot.entry.path.now 1 spot.entry.left
+        (placed (names_of spot.entry.names.now) spot.entry.path.now 1 (is_left spot.entry.fate)
         (block_view block.now) (record_view done.now))) }
 {
     for (index, taken) in done.taken.iter().enumerate() {
@@ -89,7 +130,7 @@ fn place_step(
     taken: &Taken,
 ) -> Result<(), NoMemory>
     ensures { OnOk result (AreAdded places.old.items places.new.items
-        (placed_step (names_of spot.entry.names.now) spot.entry.path.now spot.entry.left
+        (placed_step (names_of spot.entry.names.now) spot.entry.path.now (is_left spot.entry.fate)
         (step_view step.now) (taken_view taken.now))) }
 {
     match (step, taken) {
@@ -137,14 +178,14 @@ fn place_child(
 ) -> Result<(), NoMemory>
     ensures { OnOk result (let child = subaction_view child.now in
         AreAdded places.old.items places.new.items
-        (placed_child (names_of spot.entry.names.now) spot.entry.path.now spot.entry.left
+        (placed_child (names_of spot.entry.names.now) spot.entry.path.now (is_left spot.entry.fate)
         child.body child.handlers (tried_view (body.now, option_copied handler.entry)))) }
 {
     let path = spot.path;
     let body_path = format!(in alloc; "{path}.b")?;
     let in_body = Spot {
         path: body_path.as_str(),
-        left: is_left(spot.left, body.outcome),
+        fate: spot.fate.of_body(body.outcome),
         ..spot
     };
     place_block(alloc, places, in_body, &child.body, body)?;
@@ -171,8 +212,8 @@ fn place_children(
     all_tried: &[(Record, Option<Record>)],
 ) -> Result<(), NoMemory>
     ensures { OnOk result (AreAdded places.old.items places.new.items
-        (placed_children (names_of spot.entry.names.now) spot.entry.path.now 1 spot.entry.left
-        (children_view children.now) (all_tried_view all_tried.now))) }
+        (placed_children (names_of spot.entry.names.now) spot.entry.path.now 1
+        (is_left spot.entry.fate) (children_view children.now) (all_tried_view all_tried.now))) }
 {
     for (index, tried) in all_tried.iter().enumerate() {
         if index >= children.len() {
@@ -201,7 +242,7 @@ fn place_operation(
     ensures { OnOk result (AreAdded places.old.items places.new.items (record {
       path = spot.entry.path.now;
       entry = record { object = object; call = call.now; reply = reply.now };
-      left = spot.entry.left;
+      left = is_left spot.entry.fate;
     } ∷ [])) }
 {
     let path = String::from_str(alloc, spot.path)?;
@@ -210,23 +251,7 @@ fn place_operation(
         call: *call,
         reply: *reply,
     };
-    let left = spot.left;
-    places.push(PlacedOperation { path, entry, left })?;
+    let fate = spot.fate;
+    places.push(PlacedOperation { path, entry, fate })?;
     Ok(())
-}
-
-// Whether what a body did is left.
-fn is_left(left: bool, outcome: End) -> bool
-    ensures { result ≡ (left && has_ended outcome) }
-{
-    left && has_ended(outcome)
-}
-
-fn has_ended(outcome: End) -> bool
-    ensures { result ≡ has_ended outcome }
-{
-    match outcome {
-        End::Ended => true,
-        End::Aborted(_) => false,
-    }
 }

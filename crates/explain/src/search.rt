@@ -49,7 +49,7 @@ pub(crate) fn first_early<'p>(
         p.left) (places_view places.now)) }
 {
     for place in places {
-        if place.left && !commute(late, &place.entry) {
+        if place.fate.is_left() && !commute(late, &place.entry) {
             return Some(place);
         }
     }

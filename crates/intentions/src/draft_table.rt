@@ -3,7 +3,7 @@ ghost use Rattle.std.specs.Prelude.{◌≡◌, ◌<◌, ℕ, List, length, None,
 ghost use Rattle.objects.specs.Objects.{kind_of_value, kind_of_call, one_value, HasRoom};
 ghost use Rattle.objects.specs.Changes.{value_change};
 ghost use Rattle.objects.specs.declared.value.Value.{Value};
-ghost use Rattle.drafts.specs.ShownValue.{shown_value};
+ghost use Rattle.drafts.specs.Shown.{shown_value};
 ghost use Rattle.drafts.specs.History.{unchanged, changed};
 ghost use Rattle.intentions.specs.DraftTables.{drafts_of, draft_at, IsPut, IsPlaceOf};
 ghost use Rattle.intentions.specs.Layers.{histories, undo_at};

@@ -1,6 +1,6 @@
 //! Drafts of changed values over a snapshot, in levels.
 ghost use Rattle.std.specs.Prelude.{◌≡◌, ◌<◌, ◌≤◌, List, [], ◌∷◌, length, reverse, slice_get, Some, IfOk, OnOk, OnErr, take, drop, option_map};
-ghost use Rattle.drafts.specs.ShownValue.{shown_value};
+ghost use Rattle.drafts.specs.Shown.{shown_value};
 ghost use Rattle.objects.specs.Objects.{objects, Fits, ObjectHasRoom};
 ghost use Rattle.intentions.specs.Levels.{AllHaveRoom};
 ghost use Rattle.objects.specs.Entries.{after, AreLegal};

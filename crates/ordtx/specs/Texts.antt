@@ -1,5 +1,5 @@
 -- What the functions inside this crate give of a document. No public contract names it.
-use Rattle.std.specs.Prelude.{◌≡◌, ◌≢◌, ℕ, true, List, Result, IfErr, IfOk, string_bytes}
+use Rattle.std.specs.Prelude.{◌≡◌, ◌≢◌, ℕ, Bool, true, false, List, Result, IfErr, IfOk, string_bytes}
 use Rattle.std.specs.List.{flat_map}
 use Rattle.std.specs.declared.alloc.Global.{Global}
 use Rattle.std.specs.declared.string.String.{String}
@@ -8,6 +8,13 @@ use Rattle.faults.specs.Faults.{is_of_reading, memory_fault}
 use Rattle.faults.specs.declared.fault.Fault.{Fault}
 use Rattle.ordtx.specs.Answers.{IsFaultOf, Refusal, fault_of, refusal_of}
 use Rattle.ordtx.specs.declared.carrying.Uncarried.{Uncarried}
+use Rattle.ordtx.specs.declared.texts.RunCounts.{RunCounts}
+use Rattle.ordtx.specs.declared.texts.RunCounts.TheVariants.{Shown, Omitted}
+
+-- whether the run counts are in the report
+abbrev pub are_shown : RunCounts → Bool
+are_shown Shown = true
+are_shown Omitted = false
 
 -- An answer, or else an error whose fault is one of memory, or of which this holds. No input and no output failed.
 pub record Gives {T E : Type 0} (fault_of : E → Fault) (IsAnswer : T → Type 0) (IsFault : E → Type 0) (result : Result T E) : Type 0 where

@@ -5,7 +5,7 @@ ghost use Rattle.faults.specs.Faults.{is_of_reading, memory_fault, wrong_outside
 ghost use Rattle.carry.specs.Joined.{start_view};
 ghost use Rattle.lang.specs.Reading.{document_of, reading};
 ghost use Rattle.ordtx.specs.Answers.{IsCarriedIntoOf, IsCarriedOf, IsCarryFaultOf, IsCarryIntoFaultOf, fault_of, name_at, of_object, refusal_of, unfit_wrong, wrong_start};
-ghost use Rattle.ordtx.specs.TextSet.{GivesCarried};
+ghost use Rattle.ordtx.specs.Texts.{GivesCarried};
 
 use crate::texts::{batch_at_once, free};
 use batch::Batch;

@@ -10,8 +10,8 @@ use crate::carrying::{Uncarried, carried_into_of, carried_of};
 use crate::io::{read_document, write_text, write_texts};
 use crate::location::{Located, location_of};
 use crate::texts::{
-    audit_of, check_at_once_of, check_of, explanation_of, plain_parts_of, plain_report_of,
-    report_of,
+    RunCounts, audit_of, check_at_once_of, check_of, explanation_of, plain_parts_of,
+    plain_report_of, report_of,
 };
 use devices::{Sink, Source};
 use faults::Fault;
@@ -94,7 +94,7 @@ pub fn explain_stream<T: Threads + Sync, R: Source, W: Sink, G: Gate>(
         R.Source source.old source.new W.Sink sink.old sink.new result }
 {
     let document = read_document(alloc, source)?;
-    let parts = explanation_of(threads, alloc, document, plan, false, gate)?;
+    let parts = explanation_of(threads, alloc, document, plan, RunCounts::Omitted, gate)?;
     write_texts(sink, &parts)
 }
 
@@ -117,7 +117,7 @@ pub fn explain_audit_stream<T: Threads + Sync, R: Source, W: Sink, G: Gate>(
         R.Source source.old source.new W.Sink sink.old sink.new result }
 {
     let document = read_document(alloc, source)?;
-    let parts = explanation_of(threads, alloc, document, plan, true, gate)?;
+    let parts = explanation_of(threads, alloc, document, plan, RunCounts::Shown, gate)?;
     write_texts(sink, &parts)
 }
 

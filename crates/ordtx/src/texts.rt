@@ -3,7 +3,7 @@ ghost use Rattle.std.specs.Prelude.{◌≡◌, ◌≢◌, true, ℕ, List, IfErr
 ghost use Rattle.std.specs.List.{flat_map};
 ghost use Rattle.faults.specs.Faults.{is_of_reading, memory_fault};
 ghost use Rattle.lang.specs.Reading.{document_of, reading};
-ghost use Rattle.ordtx.specs.Texts.{GivesParts, GivesText};
+ghost use Rattle.ordtx.specs.Texts.{are_shown, GivesParts, GivesText};
 ghost use Rattle.ordtx.specs.Answers.{IsAuditOf, IsCheckOf, IsExplainedOf, IsFaultOf, IsPlainReportOf, IsReportOf, IsShownOf};
 
 use batch::Batch;
@@ -19,6 +19,15 @@ use speculate::Gate;
 use std::alloc::Global;
 use std::mem::forget;
 use std::thread::Threads;
+
+/// Whether a report has its run counts.
+#[derive(Clone, Copy, Drop)]
+pub(crate) enum RunCounts {
+    /// They come after the report.
+    Shown,
+    /// They are left out.
+    Omitted,
+}
 
 // The batch of a document, whose bytes are freed: what comes next takes memory.
 pub(crate) fn batch_of(alloc: Global, document: Vec<u8>) -> Result<Batch, Fault>
@@ -76,30 +85,34 @@ pub(crate) fn free<T: Drop>(value: T, plan: Plan) {
     }
 }
 
-// The report, or the report with the run counts, of a batch that was read. It is in parts, which follow
+// The report of a batch that was read, with or without the run counts. It is in parts, which follow
 // one another. That of one worker has the memory of the spare text.
 fn report_of_batch<T: Threads + Sync, G: Gate>(
     threads: &T,
     spare: String,
     batch: &Batch,
     plan: Plan,
-    audit: bool,
+    counts: RunCounts,
     gate: &G,
 ) -> Result<Vec<String>, NoMemory>
     ensures { IfOk result (λ parts. (bytes : List ℕ) → reading bytes ≡ Ok (document_of batch.now)
-        → IsShownOf audit bytes (flat_map string_bytes parts.items)) }
+        → IsShownOf (are_shown counts) bytes (flat_map string_bytes parts.items)) }
 {
     let alloc = *spare.allocator();
-    if audit {
-        let outcome = execute(threads, alloc, batch, plan, gate)?;
-        let parts = render_audit_parts(threads, spare, plan.workers, batch, &outcome)?;
-        free(outcome, plan);
-        return Ok(parts);
+    match counts {
+        RunCounts::Shown => {
+            let outcome = execute(threads, alloc, batch, plan, gate)?;
+            let parts = render_audit_parts(threads, spare, plan.workers, batch, &outcome)?;
+            free(outcome, plan);
+            Ok(parts)
+        }
+        RunCounts::Omitted => {
+            let outcome = execute_ahead(threads, alloc, batch, plan, gate)?;
+            let parts = render_parts(threads, spare, plan.workers, batch, &outcome)?;
+            free(outcome, plan);
+            Ok(parts)
+        }
     }
-    let outcome = execute_ahead(threads, alloc, batch, plan, gate)?;
-    let parts = render_parts(threads, spare, plan.workers, batch, &outcome)?;
-    free(outcome, plan);
-    Ok(parts)
 }
 
 // The report of a document.
@@ -113,7 +126,7 @@ pub(crate) fn report_of<T: Threads + Sync, G: Gate>(
     ensures { GivesParts IsReportOf document.items result }
 {
     let (batch, spare) = batch_and_spare(threads, alloc, plan, document)?;
-    let parts = report_of_batch(threads, spare, &batch, plan, false, gate)?;
+    let parts = report_of_batch(threads, spare, &batch, plan, RunCounts::Omitted, gate)?;
     free(batch, plan);
     Ok(parts)
 }
@@ -129,25 +142,24 @@ pub(crate) fn audit_of<T: Threads + Sync, G: Gate>(
     ensures { GivesParts IsAuditOf document.items result }
 {
     let (batch, spare) = batch_and_spare(threads, alloc, plan, document)?;
-    let parts = report_of_batch(threads, spare, &batch, plan, true, gate)?;
+    let parts = report_of_batch(threads, spare, &batch, plan, RunCounts::Shown, gate)?;
     free(batch, plan);
     Ok(parts)
 }
 
-// The report, with the run counts where an audit is asked for, and which operations ended the
-// rounds.
+// The report, with or without the run counts, and which operations ended the rounds.
 pub(crate) fn explanation_of<T: Threads + Sync, G: Gate>(
     threads: &T,
     alloc: Global,
     document: Vec<u8>,
     plan: Plan,
-    audit: bool,
+    counts: RunCounts,
     gate: &G,
 ) -> Result<Vec<String>, Fault>
-    ensures { GivesParts (IsExplainedOf audit) document.items result }
+    ensures { GivesParts (IsExplainedOf (are_shown counts)) document.items result }
 {
     let (batch, spare) = batch_and_spare(threads, alloc, plan, document)?;
-    let parts = explanation_of_batch(threads, spare, &batch, plan, audit, gate)?;
+    let parts = explanation_of_batch(threads, spare, &batch, plan, counts, gate)?;
     free(batch, plan);
     Ok(parts)
 }
@@ -158,14 +170,14 @@ fn explanation_of_batch<T: Threads + Sync, G: Gate>(
     spare: String,
     batch: &Batch,
     plan: Plan,
-    audit: bool,
+    counts: RunCounts,
     gate: &G,
 ) -> Result<Vec<String>, NoMemory>
     ensures { IfOk result (λ parts. (bytes : List ℕ) → reading bytes ≡ Ok (document_of batch.now)
-        → IsExplainedOf audit bytes (flat_map string_bytes parts.items)) }
+        → IsExplainedOf (are_shown counts) bytes (flat_map string_bytes parts.items)) }
 {
     let alloc = *spare.allocator();
-    let mut parts = report_of_batch(threads, spare, batch, plan, audit, gate)?;
+    let mut parts = report_of_batch(threads, spare, batch, plan, counts, gate)?;
     let why = render_why(threads, alloc, batch)?;
     parts.push(why)?;
     Ok(parts)

@@ -1,9 +1,9 @@
 use Rattle.std.proofs.Common.{sym, ◌∙◌}
 use Rattle.objects.specs.Entries.{kinds}
 use Rattle.batch.specs.Names.{texts_of}
-use Rattle.spelling.proofs.DigestLemmas.{object_named}
-use Rattle.spelling.proofs.declared.Declared.outlined.Goals as goal
-use Rattle.spelling.proofs.declared.Declared.outlined.Goals.{then-is_whole, else-is_whole}
+use Rattle.doc_tree.proofs.DigestLemmas.{object_named}
+use Rattle.doc_tree.proofs.declared.Declared.outlined.Goals as goal
+use Rattle.doc_tree.proofs.declared.Declared.outlined.Goals.{then-is_whole, else-is_whole}
 
 pub returns-then-is_at-clause-place : goal.returns-then-is_at-clause-place
 returns-then-is_at-clause-place c =

@@ -1,6 +1,6 @@
 use Rattle.std.proofs.Common.{◌∙◌}
-use Rattle.spelling.proofs.DigestLemmas.{outline_found, slot_right}
-use Rattle.spelling.proofs.outlines.Outlines.find.Goals as goal
+use Rattle.doc_tree.proofs.DigestLemmas.{outline_found, slot_right}
+use Rattle.doc_tree.proofs.outlines.Outlines.find.Goals as goal
 
 pub returns-in-Some : goal.returns-in-Some
 returns-in-Some c = λ names kinds all.

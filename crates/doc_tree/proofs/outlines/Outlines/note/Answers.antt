@@ -1,9 +1,9 @@
 use Rattle.std.proofs.Common.{set}
 use Rattle.std.specs.List.{All}
 use Rattle.std.proofs.lemmas.List.Elements.{All-set}
-use Rattle.spelling.specs.Digests.{IsRight}
-use Rattle.spelling.proofs.DigestLemmas.{slot_right}
-use Rattle.spelling.proofs.outlines.Outlines.note.Goals as goal
+use Rattle.doc_tree.specs.Digests.{IsRight}
+use Rattle.doc_tree.proofs.DigestLemmas.{slot_right}
+use Rattle.doc_tree.proofs.outlines.Outlines.note.Goals as goal
 
 pub returns-in-Some-position : goal.returns-in-Some-position
 returns-in-Some-position c = λ names kinds right all.

@@ -4,9 +4,9 @@ use Rattle.std.proofs.lemmas.List.Elements.{All-replicate, All-same, same_from_a
 use Rattle.std.proofs.lemmas.Option.{slice_get_read}
 use Rattle.objects.specs.Entries.{kinds}
 use Rattle.batch.specs.Names.{texts_of}
-use Rattle.spelling.specs.Digests.{IsRight, digest_of}
-use Rattle.spelling.proofs.DigestLemmas.{outline_right}
-use Rattle.spelling.proofs.outlines.Outlines.of.Goals as goal
+use Rattle.doc_tree.specs.Digests.{IsRight, digest_of}
+use Rattle.doc_tree.proofs.DigestLemmas.{outline_right}
+use Rattle.doc_tree.proofs.outlines.Outlines.of.Goals as goal
 
 pub loop-place-init : goal.loop-place-init
 loop-place-init c =

@@ -1,5 +1,5 @@
 use Rattle.std.proofs.Common.{rules}
-use Rattle.drafts.proofs.shown.Shown.fits.Goals as goal
+use Rattle.drafts.proofs.shown.ShownValue.fits.Goals as goal
 
 pub returns-in-Changed : goal.returns-in-Changed
 returns-in-Changed c = search rules

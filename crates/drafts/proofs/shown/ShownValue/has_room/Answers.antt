@@ -1,5 +1,5 @@
 use Rattle.std.proofs.Common.{rules}
-use Rattle.drafts.proofs.shown.Shown.has_room.Goals as goal
+use Rattle.drafts.proofs.shown.ShownValue.has_room.Goals as goal
 
 pub returns-in-Changed : goal.returns-in-Changed
 returns-in-Changed c = search rules
