@@ -1,5 +1,6 @@
 -- What a filter has, and which entries it speaks of.
-use Rattle.std.proofs.Common.{◌&&◌, ◌||◌, nat_eq, zero, suc, ◌≡◌, ◌≢◌, ◌⊎◌, ℕ, ◌^◌, ◌<◌, ◌≤◌, arith, max, Bool, true, false, List, [], ◌∷◌}
+use Rattle.std.proofs.Common.{◌&&◌, ◌||◌, nat_eq, zero, suc, ◌≡◌, ◌≢◌, ◌⊎◌, ℕ, ◌-◌, ◌^◌, ◌<◌, ◌≤◌, arith, max}
+use Rattle.std.proofs.Common.{Bool, true, false, List, [], ◌∷◌}
 use Rattle.std.proofs.Common.{length, get_or, set, refl, sym, ap, ◌∙◌, subst, inl, inr, bit_and, bit_or}
 use Rattle.std.specs.Prelude.{Option, Some, None, if◌then◌else◌}
 use Rattle.std.specs.Int.{bit_at}
@@ -12,12 +13,12 @@ use Rattle.objects.specs.declared.entry.Entry.{Entry}
 use Rattle.conflicts.specs.declared.classes.Class.{Class}
 use Rattle.conflicts.specs.declared.classes.Class.TheVariants.{Deposit}
 use Rattle.committed.specs.declared.filter.Filter.{Filter}
-use Rattle.conflicts.specs.Classes.{class_of, class_number, classes, conflicts_of, always_commute, is_by_item}
+use Rattle.conflicts.specs.Classes.{class_of, class_number, classes, conflicts_of, always_commute, is_by_item, by_item}
 use Rattle.conflicts.specs.Items.{operation_item, is_same_item, is_compared}
 use Rattle.committed.specs.Marks.{hash_of, mark_of}
 use Rattle.committed.specs.Filter.{slot_of, HasAllIn, set_at, IsMarked, Meets}
 use Rattle.objects.specs.Entries.{CommuteForward}
-use Rattle.conflicts.proofs.ClassesLemmas.{always_commutes, elsewhere}
+use Rattle.conflicts.proofs.EffectLemmas.{always_commutes, elsewhere}
 use Rattle.conflicts.proofs.ClassNumbers.{class_at, number-bound}
 
 -- ---- classes put into a set
@@ -96,16 +97,20 @@ conflict_bit c d may = eqb-true (bit_at (conflicts_of c) (class_number d)) 1 (in
     in_set true f h = absurd (false≢true (sym f))
     in_set false f h = h
 
--- the classes that aren't compared by item are those of the number that the code masks with
-object_bit : (c : Class) → bit_at 58687 (class_number c) ≡ (if is_by_item c then 0 else 1)
+-- the classes that aren't compared by item, as a set
+abbrev pub by_object : ℕ
+by_object = 65535 - by_item
+
+-- of a class that is in it, and of no other, no item is asked for
+object_bit : (c : Class) → bit_at by_object (class_number c) ≡ (if is_by_item c then 0 else 1)
 unfolding every
-object_bit c = eqb-true _ _ (every_class (λ d. nat_eq (bit_at 58687 (class_number d)) (if is_by_item d then 0 else 1)) c refl)
+object_bit c = eqb-true _ _ (every_class (λ d. nat_eq (bit_at by_object (class_number d)) (if is_by_item d then 0 else 1)) c refl)
 
 -- entries that are compared have one item where their class asks for one
 pub same_item : (p q : Entry) → is_compared p q ≡ true → is_by_item (class_of q.call q.reply) ≡ true
     → (operation_item p.call p.reply ≡ None) ⊎ (operation_item q.call q.reply ≡ operation_item p.call p.reply)
-same_item p q compared by_item = by_items (operation_item p.call p.reply) (operation_item q.call q.reply)
-    (ap (λ b. is_same_item (if b then operation_item p.call p.reply else None) (operation_item q.call q.reply)) (sym by_item)
+same_item p q compared asked = by_items (operation_item p.call p.reply) (operation_item q.call q.reply)
+    (ap (λ b. is_same_item (if b then operation_item p.call p.reply else None) (operation_item q.call q.reply)) (sym asked)
     ∙ (and_parts _ _ compared).1)
   where
     by_items : (i j : Option Item) → is_same_item i j ≡ true → (i ≡ None) ⊎ (j ≡ i)
@@ -120,7 +125,7 @@ same_object p q compared = eqb-true q.object p.object (and_parts _ _ compared).0
 -- so the hash that the class asks for is the one's hash of its object, or of its item
 pub same_hash : (p q : Entry) → is_compared p q ≡ true → is_by_item (class_of q.call q.reply) ≡ true
     → ((mark_of p).of_item ≡ (mark_of q).of_object) ⊎ ((mark_of p).of_item ≡ (mark_of q).of_item)
-same_hash p q compared by_item = elim (same_item p q compared by_item) [
+same_hash p q compared asked = elim (same_item p q compared asked) [
   | inl none ↦ inl (ap (hash_of p.object) none ∙ ap (λ o. hash_of o None) (sym (same_object p q compared)))
   | inr same ↦ inr (ap (hash_of p.object) (sym same) ∙ ap (λ o. hash_of o (operation_item q.call q.reply)) (sym (same_object p q compared)))
 ]
@@ -128,7 +133,7 @@ same_hash p q compared by_item = elim (same_item p q compared by_item) [
 -- the set of an entry's object and that of its item have the class of each other that it may conflict with
 record IsMet (filter : Filter) (p q : Entry) : Type 0 where
   object : bit_at (bit_and (set_at filter (mark_of p).of_object) (mark_of p).conflicts) (class_number (class_of q.call q.reply)) ≡ 1
-  item : bit_at (bit_or (set_at filter (mark_of p).of_item) 58687) (class_number (class_of q.call q.reply)) ≡ 1
+  item : bit_at (bit_or (set_at filter (mark_of p).of_item) by_object) (class_number (class_of q.call q.reply)) ≡ 1
 
 -- two entries commute, or one is of the classes that the other meets
 meets : (filter : Filter) (p q : Entry) → IsMarked filter q → CommuteForward p q ⊎ IsMet filter p q
@@ -147,15 +152,15 @@ meets filter p q marked = by_class (always_commute own class) refl (is_compared 
     there = marked.object number (bit_at-pow_same number)
 
     in_item : is_compared p q ≡ true → (b : Bool) → is_by_item class ≡ b
-        → max (bit_at (set_at filter (mark_of p).of_item) number) (bit_at 58687 number) ≡ 1
-    in_item compared true by_item =
-        let found : bit_at (set_at filter (mark_of p).of_item) number ≡ 1 = elim (same_hash p q compared by_item) [
+        → max (bit_at (set_at filter (mark_of p).of_item) number) (bit_at by_object number) ≡ 1
+    in_item compared true of_item =
+        let found : bit_at (set_at filter (mark_of p).of_item) number ≡ 1 = elim (same_hash p q compared of_item) [
           | inl is ↦ ap (λ h. bit_at (set_at filter h) number) is ∙ there
           | inr is ↦ ap (λ h. bit_at (set_at filter h) number) is ∙ marked.item number (bit_at-pow_same number)
         ] in
-        omega (arith, found, bit_at-lt 58687 number)
-    in_item compared false by_object =
-        let found : bit_at 58687 number ≡ 1 = object_bit class ∙ ap (λ b. if b then 0 else 1) by_object in
+        omega (arith, found, bit_at-lt by_object number)
+    in_item compared false of_object =
+        let found : bit_at by_object number ≡ 1 = object_bit class ∙ ap (λ b. if b then 0 else 1) of_object in
         omega (arith, found, bit_at-lt (set_at filter (mark_of p).of_item) number)
 
     by_class : (b : Bool) → always_commute own class ≡ b → (u : Bool) → is_compared p q ≡ u → CommuteForward p q ⊎ IsMet filter p q
@@ -167,7 +172,7 @@ meets filter p q marked = by_class (always_commute own class) refl (is_compared 
         ap (λ o. bit_at (set_at filter (hash_of o None)) number) (sym (same_object p q compared)) ∙ there in
         inr (record {
           object = bit_at_and all (conflicts_of own) number ∙ omega (arith, here, conflict_bit own class may);
-          item = bit_at_or (set_at filter (mark_of p).of_item) 58687 number ∙ in_item compared (is_by_item class) refl;
+          item = bit_at_or (set_at filter (mark_of p).of_item) by_object number ∙ in_item compared (is_by_item class) refl;
         })
 
 -- what the set of its object says
@@ -178,11 +183,11 @@ met_by_object filter p q marked = elim (meets filter p q marked) [ inl commutes 
 -- what that of its item says too
 pub met_by_item : (filter : Filter) (p q : Entry) → IsMarked filter q
     → Meets (bit_and (bit_and (set_at filter (mark_of p).of_object) (mark_of p).conflicts) (bit_or (set_at filter
-    (mark_of p).of_item) 58687)) p q
+    (mark_of p).of_item) by_object)) p q
 met_by_item filter p q marked = elim (meets filter p q marked) [
   | inl commutes ↦ inl commutes
   | inr is ↦ (let n : ℕ = class_number (class_of q.call q.reply) in
       let met : ℕ = bit_and (set_at filter (mark_of p).of_object) (mark_of p).conflicts in
-      let sets : ℕ = bit_or (set_at filter (mark_of p).of_item) 58687 in
+      let sets : ℕ = bit_or (set_at filter (mark_of p).of_item) by_object in
       inr (bit_at_and met sets n ∙ omega (arith, is.object, is.item)))
 ]

@@ -4,7 +4,7 @@ use Rattle.std.proofs.lemmas.Bool.{and_parts}
 use lib.Pointwise.{pointwise}
 use Rattle.objects.specs.contracts.entry.EntryPartialEq.TheImpl as entry_eq
 use Rattle.objects.specs.declared.entry.Entry.{Entry}
-use Rattle.conflicts.proofs.SameLemmas.{same_entry}
+use Rattle.conflicts.proofs.EffectLemmas.{same_entry}
 
 -- entries that `==` finds equal are the same
 pub same_entries : (xs ys : List Entry) → pointwise entry_eq.ghosts.eq xs ys ≡ true → xs ≡ ys

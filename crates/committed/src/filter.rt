@@ -114,10 +114,11 @@ impl Filter {
         ensures { (entry other : OneEntry) → mark.now ≡ mark_of entry → IsMarked self.now other → Meets result entry other }
     {
         let met = self.set(mark.of_object) & mark.conflicts;
-        if met & Class::BY_ITEM == 0 {
+        let by_item = Class::by_item();
+        if met & by_item == 0 {
             return met;
         }
-        met & (self.set(mark.of_item) | !Class::BY_ITEM)
+        met & (self.set(mark.of_item) | !by_item)
     }
 
     /// Whether an entry of the same class and with the same hashes may be marked.

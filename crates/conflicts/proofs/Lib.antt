@@ -1,5 +1,3 @@
 pub mod ClassNumbers
-pub mod SameLemmas
-pub mod ClassesLemmas
-pub mod StrictnessLemmas
+pub mod EffectLemmas
 pub mod StrengthLemmas

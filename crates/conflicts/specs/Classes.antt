@@ -1,76 +1,15 @@
 -- Classes of operations that always commute forward.
 use Rattle.std.specs.Prelude.{ℕ, ◌+◌, ◌^◌, Bool, true, false, not, cond, List, [], ◌∷◌}
-use Rattle.atoms.specs.Account.{account_effect}
-use Rattle.atoms.specs.Counter.{counter_effect}
-use Rattle.atoms.specs.ItemSet.{set_effect}
-use Rattle.atoms.specs.Queue.{queue_effect}
-use Rattle.atoms.specs.Directory.{key_effect}
-use Rattle.atoms.specs.MaxRegister.{max_effect}
-use Rattle.atoms.specs.declared.account.AccountEffect.{AccountEffect}
-use Rattle.atoms.specs.declared.account.AccountEffect.TheVariants as account
-use Rattle.atoms.specs.declared.counter.CounterEffect.{CounterEffect}
-use Rattle.atoms.specs.declared.counter.CounterEffect.TheVariants as counter
-use Rattle.atoms.specs.declared.item_set.SetEffect.{SetEffect}
-use Rattle.atoms.specs.declared.item_set.SetEffect.TheVariants as set
-use Rattle.atoms.specs.declared.queue.QueueEffect.{QueueEffect}
-use Rattle.atoms.specs.declared.queue.QueueEffect.TheVariants as queue
-use Rattle.atoms.specs.declared.directory.KeyEffect.{KeyEffect}
-use Rattle.atoms.specs.declared.directory.KeyEffect.TheVariants as key
-use Rattle.atoms.specs.declared.max_register.MaxEffect.{MaxEffect}
-use Rattle.atoms.specs.declared.max_register.MaxEffect.TheVariants as max
 use Rattle.objects.specs.declared.call.Call.{Call}
-use Rattle.objects.specs.declared.call.Call.TheVariants as call
 use Rattle.objects.specs.declared.call.Reply.{Reply}
-use Rattle.objects.specs.declared.call.Reply.TheVariants as reply
+use Rattle.conflicts.specs.Effects.{effect_of, effect_class}
 use Rattle.conflicts.specs.declared.classes.Class.{Class}
 use Rattle.conflicts.specs.declared.classes.Class.TheVariants.{Deposit, Withdrawal, Refusal, Balance, Count, Raise, Change, Put, Enqueue}
 use Rattle.conflicts.specs.declared.classes.Class.TheVariants.{Dequeue, Size, Look, Taken}
 
-abbrev pub account_class : AccountEffect → Class
-account_class (account.Deposited a) = Deposit
-account_class (account.Withdrew a) = Withdrawal
-account_class (account.Refused a) = Refusal
-account_class (account.Counted n) = Balance
-account_class account.Impossible = Look
-
-abbrev pub counter_class : CounterEffect → Class
-counter_class (counter.Added k) = Count
-counter_class (counter.Subtracted k) = Count
-counter_class e = Look
-
-abbrev pub set_class : SetEffect → Class
-set_class (set.WasAdded x) = Change
-set_class (set.WasRemoved x) = Change
-set_class (set.WasCounted n) = Size
-set_class e = Look
-
-abbrev pub queue_class : QueueEffect → Class
-queue_class (queue.Enqueued x) = Enqueue
-queue_class (queue.Dequeued x) = Dequeue
-queue_class queue.FoundEmpty = Size
-queue_class (queue.Counted n) = Size
-queue_class queue.Impossible = Look
-
-abbrev pub key_class : KeyEffect → Class
-key_class (key.WasBound v) = Change
-key_class (key.WasPut v) = Put
-key_class key.WasTaken = Taken
-key_class key.WasUnbound = Change
-key_class e = Look
-
-abbrev pub max_class : MaxEffect → Class
-max_class (max.Raised k) = Raise
-max_class e = Look
-
--- an operation that is legal at no value is taken for a look
+-- the class of an operation
 abbrev pub class_of : Call → Reply → Class
-class_of (call.Account c) (reply.Account r) = account_class (account_effect (c, r))
-class_of (call.Counter c) (reply.Counter r) = counter_class (counter_effect (c, r))
-class_of (call.Set c) (reply.Set r) = set_class (set_effect (c, r))
-class_of (call.Queue c) (reply.Queue r) = queue_class (queue_effect (c, r))
-class_of (call.Directory c) (reply.Directory r) = key_class (key_effect (c, r))
-class_of (call.Max c) (reply.Max r) = max_class (max_effect (c, r))
-class_of c r = Look
+class_of c r = effect_class (effect_of c r)
 
 abbrev pub class_number : Class → ℕ
 class_number Deposit = 0
@@ -141,3 +80,7 @@ is_by_item Dequeue = true
 is_by_item Look = true
 is_by_item Taken = true
 is_by_item c = false
+
+-- these classes, as a set
+abbrev pub by_item : ℕ
+by_item = set_of is_by_item classes

@@ -1,37 +1,15 @@
 -- The items that operations are about.
 use Rattle.std.specs.Prelude.{◌==◌, ◌&&◌, Bool, true, false, Option, Some, None, if◌then◌else◌}
 use Rattle.atoms.specs.declared.item.Item.{Item}
-use Rattle.atoms.specs.ItemSet.{set_effect}
-use Rattle.atoms.specs.Queue.{queue_effect}
-use Rattle.atoms.specs.Directory.{key_of}
-use Rattle.atoms.specs.declared.item_set.SetEffect.{SetEffect}
-use Rattle.atoms.specs.declared.item_set.SetEffect.TheVariants.{WasAdded, WasRemoved, WasInside, WasOutside}
-use Rattle.atoms.specs.declared.queue.QueueEffect.{QueueEffect}
-use Rattle.atoms.specs.declared.queue.QueueEffect.TheVariants.{Dequeued}
 use Rattle.objects.specs.declared.call.Call.{Call}
-use Rattle.objects.specs.declared.call.Call.TheVariants.{Set, Queue, Directory}
 use Rattle.objects.specs.declared.call.Reply.{Reply}
-use Rattle.objects.specs.declared.call.Reply.TheVariants as reply
 use Rattle.objects.specs.declared.entry.Entry.{Entry}
+use Rattle.conflicts.specs.Effects.{effect_of, effect_item}
 use Rattle.conflicts.specs.Classes.{class_of, is_by_item}
 
-abbrev pub set_item : SetEffect → Option Item
-set_item (WasAdded x) = Some x
-set_item (WasRemoved x) = Some x
-set_item (WasInside x) = Some x
-set_item (WasOutside x) = Some x
-set_item e = None
-
-abbrev pub taken_item : QueueEffect → Option Item
-taken_item (Dequeued x) = Some x
-taken_item e = None
-
--- the item that an operation is about, where it is about no other part of its object
+-- the item of an operation
 abbrev pub operation_item : Call → Reply → Option Item
-operation_item (Set c) (reply.Set r) = set_item (set_effect (c, r))
-operation_item (Directory c) (reply.Directory r) = Some (key_of c)
-operation_item (Queue c) (reply.Queue r) = taken_item (queue_effect (c, r))
-operation_item c r = None
+operation_item c r = effect_item (effect_of c r)
 
 -- the item, where one is asked for
 abbrev pub is_same_item : Option Item → Option Item → Bool

@@ -1,3 +1,4 @@
+pub mod Effects
 pub mod Classes
 pub mod Items
 pub mod Strictness

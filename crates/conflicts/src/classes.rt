@@ -2,13 +2,10 @@
 ghost use Rattle.std.specs.Prelude.{◌≡◌, ◌<◌, ◌^◌, ◌⊎◌, IfSome, IsNone};
 ghost use Rattle.std.specs.Int.{bit_at};
 ghost use Rattle.conflicts.specs.declared.classes.Class.{Class as OneClass};
-ghost use Rattle.conflicts.specs.Classes.{account_class, counter_class, set_class, queue_class, key_class, max_class, class_of, class_number, conflicts_of, is_by_item};
+ghost use Rattle.conflicts.specs.Classes.{class_of, class_number, conflicts_of, is_by_item, by_item};
 
-use atoms::{
-    Account, AccountEffect, Counter, CounterEffect, Directory, ItemSet, KeyEffect, MaxEffect,
-    MaxRegister, Queue, QueueEffect, SetEffect,
-};
-use objects::{Call, Entry, Reply};
+use crate::effect::class_of;
+use objects::Entry;
 
 /// What an operation did, as far as it decides with which others it always commutes forward. It
 /// depends on the operation's effect.
@@ -57,28 +54,11 @@ impl Class {
         Class::Taken,
     ];
 
-    /// The set of the classes whose entries are compared only with those of their own item.
-    pub const BY_ITEM: u16 = 0b1_1010_1100_0000;
-
     /// The class of an entry's operation.
     pub fn of(entry: &Entry) -> Class
         ensures { result ≡ class_of entry.now.call entry.now.reply }
     {
-        match (&entry.call, &entry.reply) {
-            (Call::Account(call), Reply::Account(reply)) => {
-                account_class(Account::effect(call, reply))
-            }
-            (Call::Counter(call), Reply::Counter(reply)) => {
-                counter_class(Counter::effect(call, reply))
-            }
-            (Call::Set(call), Reply::Set(reply)) => set_class(ItemSet::effect(call, reply)),
-            (Call::Queue(call), Reply::Queue(reply)) => queue_class(Queue::effect(call, reply)),
-            (Call::Directory(call), Reply::Directory(reply)) => {
-                key_class(Directory::effect(call, reply).change)
-            }
-            (Call::Max(call), Reply::Max(reply)) => max_class(MaxRegister::effect(call, reply)),
-            _ => Class::Look,
-        }
+        class_of(&entry.call, &entry.reply)
     }
 
     /// The place of the class among all.
@@ -161,6 +141,17 @@ impl Class {
         }
     }
 
+    /// The set of the classes for which `is_by_item` holds.
+    pub fn by_item() -> u16
+        ensures { result ≡ by_item }
+    {
+        Class::Change.bit()
+            | Class::Put.bit()
+            | Class::Dequeue.bit()
+            | Class::Look.bit()
+            | Class::Taken.bit()
+    }
+
     /// Whether entries of the class that are about items are compared only with those of their own
     /// item.
     pub fn is_by_item(self) -> bool
@@ -170,67 +161,5 @@ impl Class {
             self,
             Class::Change | Class::Put | Class::Dequeue | Class::Look | Class::Taken
         )
-    }
-}
-
-fn account_class(effect: AccountEffect) -> Class
-    ensures { result ≡ account_class effect }
-{
-    match effect {
-        AccountEffect::Deposited(_) => Class::Deposit,
-        AccountEffect::Withdrew(_) => Class::Withdrawal,
-        AccountEffect::Refused(_) => Class::Refusal,
-        AccountEffect::Counted(_) => Class::Balance,
-        AccountEffect::Impossible => Class::Look,
-    }
-}
-
-fn counter_class(effect: CounterEffect) -> Class
-    ensures { result ≡ counter_class effect }
-{
-    match effect {
-        CounterEffect::Added(_) | CounterEffect::Subtracted(_) => Class::Count,
-        CounterEffect::Counted(_) | CounterEffect::Impossible => Class::Look,
-    }
-}
-
-fn set_class(effect: SetEffect) -> Class
-    ensures { result ≡ set_class effect }
-{
-    match effect {
-        SetEffect::WasAdded(_) | SetEffect::WasRemoved(_) => Class::Change,
-        SetEffect::WasCounted(_) => Class::Size,
-        SetEffect::WasInside(_) | SetEffect::WasOutside(_) | SetEffect::Impossible => Class::Look,
-    }
-}
-
-fn queue_class(effect: QueueEffect) -> Class
-    ensures { result ≡ queue_class effect }
-{
-    match effect {
-        QueueEffect::Enqueued(_) => Class::Enqueue,
-        QueueEffect::Dequeued(_) => Class::Dequeue,
-        QueueEffect::FoundEmpty | QueueEffect::Counted(_) => Class::Size,
-        QueueEffect::Impossible => Class::Look,
-    }
-}
-
-fn key_class(effect: KeyEffect) -> Class
-    ensures { result ≡ key_class effect }
-{
-    match effect {
-        KeyEffect::WasBound(_) | KeyEffect::WasUnbound => Class::Change,
-        KeyEffect::WasPut(_) => Class::Put,
-        KeyEffect::WasTaken => Class::Taken,
-        KeyEffect::WasMissing | KeyEffect::WasFound(_) | KeyEffect::Impossible => Class::Look,
-    }
-}
-
-fn max_class(effect: MaxEffect) -> Class
-    ensures { result ≡ max_class effect }
-{
-    match effect {
-        MaxEffect::Raised(_) => Class::Raise,
-        MaxEffect::Counted(_) | MaxEffect::Impossible => Class::Look,
     }
 }

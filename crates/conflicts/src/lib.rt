@@ -7,11 +7,11 @@
 #![tactic(auto)]
 
 mod classes;
-mod items;
+mod effect;
 mod strength;
 mod strictness;
 
 pub use classes::Class;
-pub use items::operation_item;
+pub use effect::operation_item;
 pub use strength::{Strength, Topic};
 pub use strictness::{Measured, are_as_strict, is_as_strict};

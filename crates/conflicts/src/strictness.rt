@@ -5,7 +5,7 @@ ghost use Rattle.atoms.specs.Queue.{queue_effects_commute};
 ghost use Rattle.atoms.specs.Directory.{key_effects_commute, directory_effects_commute};
 ghost use Rattle.conflicts.specs.Strictness.{IsAsStrict, AreAsStrict, EffectsAreAsStrict, strength_of, covers};
 
-use crate::items::set_item;
+use crate::effect::set_item;
 use crate::strength::Strength;
 use atoms::{Directory, DirectoryEffect, ItemSet, KeyEffect, Queue, QueueEffect, SetEffect};
 use objects::{Call, Entry, Reply};

@@ -32,9 +32,12 @@ pub(crate) fn perform(
 ) -> Result<Reply, NoMemory>
     requires fits { Fits (shown_values view.old) object call.now }
     requires room { ObjectHasRoom (shown_values view.old) object call.now }
-    ensures reply { IfOk result (λ reply. objects.reply (shown_values view.old) (object, call.now) ≡ Some reply) }
-    ensures view { IfOk result (λ reply. view.new ≡ with_entry view.old (record { object = object; call = call.now; reply = reply })) }
-    ensures labels { IfOk result (λ reply. labels.new.items ≡ labels.old.items ++ label_if labelled (Replied reply)) }
+    ensures reply { IfOk result (λ reply. objects.reply (shown_values view.old) (object, call.now)
+        ≡ Some reply) }
+    ensures view { IfOk result (λ reply. view.new ≡ with_entry view.old
+        (record { object = object; call = call.now; reply = reply })) }
+    ensures labels { IfOk result (λ reply. labels.new.items ≡ labels.old.items
+        ++ label_if labelled (Replied reply)) }
 {
     let reply = view.perform(object, call)?;
     add_label(labels, labelled, Held::Replied(reply))?;
@@ -51,7 +54,8 @@ pub(crate) fn perform_filled(
 ) -> Result<(Taken, End), NoMemory>
     requires { CanStepHere (filling_view filling.now) labels.old.items (shown_values view.old) }
     ensures shows { IfOk result
-        (λ r. ShowsStep in_view (one_step (filling_view filling.now) labels.old.items (shown_values view.old)) r.0 r.1 labels.old.items labels.new.items view.old view.new) }
+        (λ r. ShowsStep in_view (one_step (filling_view filling.now) labels.old.items
+        (shown_values view.old)) r.0 r.1 labels.old.items labels.new.items view.old view.new) }
     ensures labels { OnOk result (StillSeen labels.old.items labels.new.items) }
 {
     match fill(&filling.template, labels) {
@@ -88,7 +92,8 @@ pub(crate) fn undo<'a>(
 ) -> Result<&'a Block, End>
     requires { 0 < length view.old.outer }
     ensures undone { view.new ≡ aborted view.old }
-    ensures takes { IfOk result (λ block. Some (block_view block.now) ≡ taker (subaction_view child.now).handlers reason) }
+    ensures takes { IfOk result (λ block. Some (block_view block.now)
+        ≡ taker (subaction_view child.now).handlers reason) }
     ensures inside { IfOk result (λ block. size-Block block.now < size-Subaction child.now) }
     ensures none { IfErr result (λ end. None ≡ taker (subaction_view child.now).handlers reason) }
     ensures end { IfErr result (λ end. end ≡ untaken (subaction_view child.now).handlers reason) }

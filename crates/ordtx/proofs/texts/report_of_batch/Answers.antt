@@ -46,5 +46,6 @@ returns-in_ok-parts-in-Omitted g c bytes reads =
       rounds = rounds;
       counted = c.in_ok-outcome-in-Omitted.ensures.rounds;
       few = c.in_ok-outcome-in-Omitted.ensures.few;
-      is = c.in_ok-parts-in-Omitted.ensures ∙ ap₂ of_parts c.in_ok-outcome-in-Omitted.ensures.records c.in_ok-outcome-in-Omitted.ensures.objects;
+      is = c.in_ok-parts-in-Omitted.ensures
+          ∙ ap₂ of_parts c.in_ok-outcome-in-Omitted.ensures.records c.in_ok-outcome-in-Omitted.ensures.objects;
     })

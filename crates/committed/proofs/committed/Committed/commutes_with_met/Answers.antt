@@ -7,7 +7,7 @@ use Rattle.conflicts.specs.Items.{is_compared}
 use Rattle.committed.specs.Headings.{heading_against}
 use Rattle.committed.specs.Index.{IsLinked, IsListed}
 use Rattle.objects.specs.Entries.{CommuteForward}
-use Rattle.conflicts.proofs.ClassesLemmas.{elsewhere}
+use Rattle.conflicts.proofs.EffectLemmas.{elsewhere}
 use Rattle.committed.proofs.StandsLemmas.{all_first, each_first, linked_against}
 use Rattle.committed.proofs.committed.Committed.commutes_with_met.Goals as goal
 
