@@ -1,8 +1,10 @@
 -- Steps that were pulled from tokens, as what is asked and spelled of their data.
-use Rattle.std.proofs.Common.{◌≡◌, ℕ, true, false, List, [], ◌∷◌, ◌++◌, Option, None, Some, refl, ap, sym, subst, ◌∙◌, arith, rules}
+use Rattle.std.proofs.Common.{◌≡◌, ◌≤◌, ◌+◌, ◌*◌, ℕ, true, false, List, [], ◌∷◌, ◌++◌, Option, None, Some, refl, ap, sym, subst, ◌∙◌, arith}
+use Rattle.std.proofs.Common.{rules}
 use Rattle.std.specs.Prelude.{codes, is_some}
+use Rattle.json.specs.Json.{after_end_array}
 use Rattle.json.specs.Token.{Token}
-use Rattle.serde_json.specs.Data.{Data, Items, Members, member, no_members, string}
+use Rattle.serde_json.specs.Data.{Data, Items, Members, item, member, no_members, string}
 use Rattle.meaning.specs.Trees as tree
 use Rattle.meaning.specs.declared.template.Template.{Template}
 use Rattle.meaning.specs.declared.template.Template.TheVariants.{Given}
@@ -12,6 +14,8 @@ use Rattle.objects.specs.declared.call.Call.{Call}
 use Rattle.batch.specs.declared.tree.Step.{Step, the_lemmas}
 use Rattle.batch.specs.Views.{step_view}
 use Rattle.doc_tree.specs.declared.counts.Counts.{Counts}
+use Rattle.doc_tree.specs.declared.declared.Declared.{Declared}
+use Rattle.doc_tree.specs.declared.state.ReaderState.{ReaderState}
 use Rattle.doc_rules.specs.declared.rule.NameRule.TheVariants.{Else}
 use Rattle.doc_rules.specs.declared.subject.Subject.TheVariants.{Reply}
 use Rattle.doc_tree.specs.Answer.{AreMet, IsMet}
@@ -19,15 +23,18 @@ use Rattle.doc_tree.specs.Asked.{arguments_asked, else_reason, label_asked, labe
 use Rattle.doc_tree.specs.Asked.{operation_asked, operation_verb, part, reason_asked, scope_after, sort_of, target_asked}
 use Rattle.doc_tree.specs.Asked.{operation_shape_asked}
 use Rattle.doc_tree.specs.Demand.{one_more_operation}
-use Rattle.doc_tokens.specs.Pulled.{ReadsItems, ReadsMembers, ReadsValue, labelled, may_abort, op_array, op_step, reason_in}
+use Rattle.doc_tokens.specs.Pulled.{ReadsItems, ReadsMembers, ReadsValue, first_key, labelled, may_abort, op_array, op_step, reason_in}
 use Rattle.doc_tokens.specs.Pulled.{refusal_told, with_abort}
-use Rattle.doc_tokens.proofs.PulledLemmas.{reads_array, reads_item, reads_member, reads_object, reads_string}
-use Rattle.doc_tree.specs.Scope.{Numbers, Scope, Setting, with_label}
-use Rattle.doc_tree.specs.Spelled.{Spelling, operation_of, operation_step, refusal_of, spelled_map, step_of, target_of, template_of}
+use Rattle.doc_tokens.specs.PulledBlocks.{SpellsPlainStep, SpellsStep, SpellsSteps}
+use Rattle.doc_tokens.proofs.PulledLemmas.{reads_array, reads_deeper, reads_item, reads_member, reads_object, reads_string}
+use Rattle.doc_tree.specs.Scope.{Extends, Numbers, Scope, Setting, numbers_of, scope_of, setting_of, with_label}
+use Rattle.doc_tree.specs.Spelled.{Spelling, block_of, operation_of, operation_step, refusal_of, spelled_map, step_of, steps_spelled}
+use Rattle.doc_tree.specs.Spelled.{target_of, template_of}
 use Rattle.doc_tree.specs.declared.steps.Sort.TheVariants.{Operation}
 use Rattle.doc_tree.proofs.Checks.{check_met}
-use Rattle.doc_tree.specs.Places.{Places, step_placed}
-use Rattle.doc_tree.proofs.PlaceLemmas.{own_met}
+use Rattle.doc_tree.specs.Places.{Places, block_placed, item_at, step_placed, steps_placed}
+use Rattle.doc_tree.proofs.PlaceLemmas.{own_met, part_met}
+use Rattle.doc_tree.proofs.LabelLemmas.{extends_twice, scope_after_extends}
 
 pub op_part : (label : Option (List ℕ)) (abort : Option (Option (List ℕ))) (op : Data) → part (codes "op") (op_step label abort op) ≡ op
 op_part None None op = refl
@@ -160,3 +167,54 @@ module _ (setting : Setting) (scope : Scope) (label : Option (List ℕ)) (abort 
       ≡ with_label label (Reply (operation_verb setting o c)) scope
   unfolding scope_after
   operation_scope = rw (op_sort label abort op, op_part label abort op, op_label label abort op) refl
+
+-- ---- any step
+
+-- a step without blocks is one with blocks within any number of levels
+pub plain_step : {k : ℕ} {declared : Declared} {old new : List Token} {p q : ReaderState} {step : Step} (levels : ℕ)
+    → SpellsPlainStep k declared old new p q step → SpellsStep k levels declared old new p q step
+plain_step {k} {declared} levels w = record {
+  value = w.value;
+  reads = w.reads;
+  met = w.met (block_placed (setting_of declared) levels);
+  spelled = w.spelled (block_of (setting_of declared) levels);
+  scope = w.scope;
+}
+
+-- a step whose first key was read is one from its beginning on
+pub step_begun : {k levels : ℕ} {declared : Declared} {old inside new : List Token} {p q : ReaderState} {name : List ℕ} {step : Step}
+    → old ≡ first_key name inside → SpellsStep k levels declared (first_key name inside) new p q step → k ≤ 5 * levels + 4
+    → SpellsStep (5 * levels + 4) levels declared old new p q step
+step_begun {k} {levels} {declared} {old} {inside} {new} begun w le = record {
+  value = w.value;
+  reads = subst (λ ts. ReadsValue (5 * levels + 4) ts w.value new) (sym begun) (reads_deeper k (5 * levels + 4) _ w.value new le w.reads);
+  met = w.met;
+  spelled = w.spelled;
+  scope = w.scope;
+}
+
+-- a step before others
+pub steps_more : (i levels : ℕ) (declared : Declared) (old mid new : List Token) (p q r : ReaderState) (step : Step) (steps : List Step)
+    → after_end_array old ≡ None → SpellsStep (5 * levels + 4) levels declared old mid p q step
+    → SpellsSteps (i + 1) levels declared mid new q r steps → SpellsSteps i levels declared old new p r (step ∷ steps)
+steps_more i levels declared old mid new p q r step steps going first later =
+    let setting = setting_of declared in
+    let places = block_placed setting levels in
+    let block = block_of setting levels in
+    let here = scope_of p.labels.entries in
+    let d = first.value in
+    let ds = later.value in
+    let met = subst (λ s. AreMet q.counts (steps_placed places setting s (i + 1) ds) r.counts) first.scope later.met in
+    let spelled = later.spelled ∙ ap (λ s. steps_spelled block setting s (numbers_of q.numbering) ds) first.scope in
+    record {
+      value = item d ds;
+      reads = reads_item (5 * levels + 4) old mid new d ds going first.reads later.reads;
+      met = part_met p.counts q.counts (item_at i) (step_placed places setting here d)
+          (steps_placed places setting (scope_after setting here d) (i + 1) ds) first.met ∙ met;
+      spelled = ap (λ (w : List tree.Step × Numbers). (step_view step ∷ w.0, w.1)) spelled
+          ∙ ap (λ (w : tree.Step × Numbers). (
+            w.0 ∷ (steps_spelled block setting (scope_after setting here d) w.1 ds).0,
+            (steps_spelled block setting (scope_after setting here d) w.1 ds).1,
+          )) first.spelled;
+      extends = extends_twice _ _ _ (subst (λ s. Extends here s) (sym first.scope) (scope_after_extends setting here d)) later.extends;
+    }

@@ -1,13 +1,18 @@
 -- Subactions that were pulled from tokens, member by member.
-use Rattle.std.proofs.Common.{◌≡◌, ℕ, Bool, ◌||◌, true, false, List, [], ◌∷◌, Option, None, Some, Ok, refl, sym, subst, ap, ◌∙◌}
-use Rattle.std.specs.Prelude.{codes, is_some, nat_le, not}
-use Rattle.json.specs.Json.{read_key}
+use Rattle.std.proofs.Common.{◌≡◌, ◌≤◌, ◌+◌, ◌*◌, ℕ, suc, Bool, ◌||◌, true, false, List, [], ◌∷◌, Option, None, Some, Ok, map, refl, sym}
+use Rattle.std.proofs.Common.{subst, ap, ◌∙◌, arith, le-leb}
+use Rattle.std.specs.Prelude.{codes, is_some, not}
+use Rattle.json.specs.Json.{after_end_array, read_key}
 use Rattle.json.specs.Token.{Token}
 use Rattle.json.proofs.Grammar.{read_key-shorter}
-use Rattle.serde_json.specs.Data.{Data, Members, object, put, string, Items, array, member, no_members}
+use Rattle.serde_json.specs.Data.{Data, Members, object, put, string, Items, array, item, member, no_members}
 use Rattle.serde_json.specs.Find.{get}
-use Rattle.meaning.specs.Trees.{Block}
 use Rattle.doc_tree.specs.declared.counts.Counts.{Counts}
+use Rattle.batch.specs.declared.tree.Block.{Block}
+use Rattle.batch.specs.declared.tree.Handler.{Handler}
+use Rattle.batch.specs.declared.tree.Subaction.{Subaction}
+use Rattle.doc_tree.specs.declared.declared.Declared.{Declared}
+use Rattle.doc_tree.specs.declared.state.ReaderState.{ReaderState}
 use Rattle.doc_tree.specs.declared.steps.Sort.TheVariants.{Sub}
 use Rattle.doc_rules.specs.declared.subject.Subject.TheVariants.{Outcome}
 use Rattle.doc_tree.specs.Answer.{AreMet, IsMet}
@@ -18,16 +23,18 @@ use Rattle.doc_tree.specs.Demand.{check, holds, one_more_node}
 use Rattle.doc_rules.specs.declared.rule.NameRule.TheVariants.{Label}
 use Rattle.doc_rules.specs.declared.rule.Rule.TheVariants.{Name, NewLabel}
 use Rattle.batch.specs.Names.{is_name}
-use Rattle.doc_tokens.specs.Pulled.{ReadsMembers, ReadsValue, SubTail, are_allowed, sub_members}
-use Rattle.doc_tree.specs.Scope.{Numbers, Scope, Setting, is_named, with_label, with_labels}
-use Rattle.doc_tree.specs.Spelled.{Spelling, block_of_if, handlers_spelled, members_of, spelled_map, step_of, sub_of, sub_step, tried}
-use Rattle.doc_tree.specs.Spelled.{children_spelled, parallel_of}
-use Rattle.doc_tokens.proofs.PulledLemmas.{reads_member, reads_string}
-use Rattle.batch.specs.Views.{Tried, children_of}
+use Rattle.doc_tokens.specs.Pulled.{ReadsMembers, are_allowed, sub_members}
+use Rattle.doc_tokens.specs.PulledBlocks.{SpellsBlock, SpellsChildren, SpellsHandlers, SpellsSub, SubTail}
+use Rattle.doc_tree.specs.Scope.{AreUnseen, Numbers, Scope, Setting, is_named, numbers_of, scope_of, setting_of, with_label, with_labels}
+use Rattle.doc_tree.specs.Spelled.{Spelling, block_of, block_of_if, children_spelled, handlers_spelled, members_of, parallel_of}
+use Rattle.doc_tree.specs.Spelled.{spelled_map, step_of, sub_of, sub_step, tried}
+use Rattle.doc_tokens.proofs.PulledLemmas.{reads_deeper, reads_item, reads_member, reads_object, reads_string}
+use Rattle.batch.specs.Views.{Tried, block_view, children_of, handler_view, subaction_view}
 use Rattle.meaning.specs.Trees as tree
-use Rattle.doc_tree.specs.Places.{Places, block_placed_if, children_placed, handlers_placed, inside, itself, member_named, members_placed}
-use Rattle.doc_tree.specs.Places.{nothing, parallel_placed, step_placed, sub_placed}
+use Rattle.doc_tree.specs.Places.{Places, block_placed, block_placed_if, children_placed, handlers_placed, inside, item_at, itself}
+use Rattle.doc_tree.specs.Places.{member_named, members_placed, nothing, parallel_placed, step_placed, sub_placed}
 use Rattle.doc_tree.proofs.PlaceLemmas.{own_first, part_met}
+use Rattle.doc_tree.proofs.LabelLemmas.{child_label_met}
 
 -- ---- the members
 
@@ -151,110 +158,131 @@ unfolding handlers_placed
 none_asked version places scope None mid next e met = cc
 none_asked version places scope (Some d) mid next e met = cc
 
-module _ (k version : ℕ) (places : Places) (block : Spelling) (scope : Scope) (old : List Token) (start : Counts) (numbers : Numbers) where
+module _ (levels : ℕ) (declared : Declared) (scope : Scope) (old : List Token) (p : ReaderState) where
   -- nothing yet
-  pub tail_none : SubTail k version places block scope old start numbers None None None old start numbers
+  pub tail_none : scope_of p.labels.entries ≡ scope → SubTail levels declared scope old p None None None old p
   unfolding handlers_placed handlers_spelled block_placed_if block_of_if
-  tail_none = record {
+  tail_none same = record {
     reasons = None;
     every = None;
-    mid = start;
-    between = numbers;
-    reads = λ body ms new read. read;
+    mid = p.counts;
+    between = numbers_of p.numbering;
+    reads = λ body ms rest read. read;
     allowed = refl;
     first = refl;
     second = refl;
     reasons_spelled = refl;
     every_spelled = refl;
+    same = same;
   }
 
-  module _ (label : Option (List ℕ)) (now : List Token) (next : Counts) (after : Numbers) where
+  module _ (label : Option (List ℕ)) (now : List Token) (q : ReaderState) where
     -- the label
-    pub tail_label : (handlers : Option (List (ℕ × Block))) (handler : Option Block) (s : List ℕ) (left : List Token) → label ≡ None
-        → read_key now ≡ Some (Some (codes "as"), Token.string s ∷ left)
-        → SubTail k version places block scope old start numbers handlers handler label now next after
-        → SubTail k version places block scope old start numbers handlers handler (Some s) left next after
+    pub tail_label : (handlers : Option (List (ℕ × tree.Block))) (handler : Option tree.Block) (s : List ℕ) (left : List Token)
+        → label ≡ None → read_key now ≡ Some (Some (codes "as"), Token.string s ∷ left)
+        → SubTail levels declared scope old p handlers handler label now q
+        → SubTail levels declared scope old p handlers handler (Some s) left q
     tail_label handlers handler s left none is t =
+        let k = 5 * levels + 1 in
         let bare : Data → Members = λ body. sub_members body t.reasons t.every None in
         record {
           reasons = t.reasons;
           every = t.every;
           mid = t.mid;
           between = t.between;
-          reads = λ body ms new read. t.reads body ms new
-              (subst (λ l. ReadsMembers k (sub_members body t.reasons t.every l) now ms new) (sym none)
-              (reads_member k (bare body) (codes "as") now (Token.string s ∷ left) left new (string s) ms is (read_key-shorter _ _ _ is)
+          reads = λ body ms rest read. t.reads body ms rest
+              (subst (λ l. ReadsMembers k (sub_members body t.reasons t.every l) now ms rest) (sym none)
+              (reads_member k (bare body) (codes "as") now (Token.string s ∷ left) left rest (string s) ms is (read_key-shorter _ _ _ is)
               (reads_string k s left) read));
           allowed = t.allowed;
           first = t.first;
           second = t.second;
           reasons_spelled = t.reasons_spelled;
           every_spelled = t.every_spelled;
+          same = t.same;
         }
 
     -- the handler
-    pub tail_handler : (handlers : Option (List (ℕ × Block))) (handler : Option Block) (d : Data) (b : Block) (inner left : List Token)
-        (last : Counts) (final : Numbers)
-        → read_key now ≡ Some (Some (codes "handler"), inner) → ReadsValue k inner d left → AreMet next (places scope d) last
-        → (b, final) ≡ block scope after d → handler ≡ None
-        → SubTail k version places block scope old start numbers handlers handler label now next after
-        → SubTail k version places block scope old start numbers handlers (Some b) label left last final
+    pub tail_handler : (handlers : Option (List (ℕ × tree.Block))) (handler : Option tree.Block) (block : Block) (inner left : List Token)
+        (r : ReaderState) → read_key now ≡ Some (Some (codes "handler"), inner) → SpellsBlock levels declared inner left q r block
+        → handler ≡ None → SubTail levels declared scope old p handlers handler label now q
+        → SubTail levels declared scope old p handlers (Some (block_view block)) label left r
     unfolding block_placed_if block_of_if
-    tail_handler handlers handler d b inner left last final is first met spelled free t =
-        let none = no_handler block scope t.between after t.every
-        (subst (λ h. (h, after) ≡ block_of_if block scope t.between t.every) free t.every_spelled) in
-        let same = nothing_asked places scope t.every t.mid next none.0 t.second in
+    tail_handler handlers handler block inner left r is done free t =
+        let k = 5 * levels + 1 in
+        let places = block_placed (setting_of declared) levels in
+        let spelling = block_of (setting_of declared) levels in
+        let after = numbers_of q.numbering in
+        let d = done.value in
+        let none = no_handler spelling scope t.between after t.every
+        (subst (λ h. (h, after) ≡ block_of_if spelling scope t.between t.every) free t.every_spelled) in
+        let same = nothing_asked places scope t.every t.mid q.counts none.0 t.second in
+        let value = subst (λ s. (block_view block, numbers_of r.numbering) ≡ spelling s after d) t.same done.spelled in
         let bare : Data → Members = λ body. sub_members body t.reasons None label in
         record {
           reasons = t.reasons;
           every = Some d;
           mid = t.mid;
           between = t.between;
-          reads = λ body ms new read. t.reads body ms new
-              (subst (λ e. ReadsMembers k (sub_members body t.reasons e label) now ms new) (sym none.0)
-              (reads_member k (bare body) (codes "handler") now inner left new d ms is (read_key-shorter _ _ _ is) first
-              (subst (λ found. ReadsMembers k found left ms new) (sym (put_handler body d t.reasons label)) read)));
+          reads = λ body ms rest read. t.reads body ms rest
+              (subst (λ e. ReadsMembers k (sub_members body t.reasons e label) now ms rest) (sym none.0)
+              (reads_member k (bare body) (codes "handler") now inner left rest d ms is (read_key-shorter _ _ _ is)
+              (reads_deeper (5 * levels) k inner d left (omega arith) done.reads)
+              (subst (λ found. ReadsMembers k found left ms rest) (sym (put_handler body d t.reasons label)) read)));
           allowed = t.allowed;
           first = t.first;
-          second = subst (λ c. AreMet c (places scope d) last) (sym same) met;
+          second = subst (λ c. AreMet c (places scope d) r.counts) (sym same)
+              (subst (λ s. AreMet q.counts (places s d) r.counts) t.same done.met);
           reasons_spelled = t.reasons_spelled;
-          every_spelled = ap (spelled_map (λ (x : Block). Some x)) spelled
-              ∙ ap (λ n. spelled_map (λ (x : Block). Some x) (block scope n d)) (sym none.1);
+          every_spelled = ap (spelled_map (λ (x : tree.Block). Some x)) value
+              ∙ ap (λ n. spelled_map (λ (x : tree.Block). Some x) (spelling scope n d)) (sym none.1);
+          same = done.scope ∙ t.same;
         }
 
     -- the handlers by reason
-    pub tail_handlers : (handlers : Option (List (ℕ × Block))) (handler : Option Block) (hs : Members) (read_handlers : List (ℕ × Block))
-        (inner left : List Token) (last : Counts) (final : Numbers)
-        → read_key now ≡ Some (Some (codes "handlers"), inner) → ReadsValue k inner (object hs) left → nat_le 3 version ≡ true
-        → AreMet next (members_placed version places scope hs) last → (read_handlers, final) ≡ members_of block scope after hs
-        → handlers ≡ None → handler ≡ None
-        → SubTail k version places block scope old start numbers handlers handler label now next after
-        → SubTail k version places block scope old start numbers (Some read_handlers) handler label left last final
+    pub tail_handlers : (handlers : Option (List (ℕ × tree.Block))) (handler : Option tree.Block) (read_handlers : List Handler)
+        (members left : List Token) (r : ReaderState) → read_key now ≡ Some (Some (codes "handlers"), Token.begin_object ∷ members)
+        → 3 ≤ declared.version → SpellsHandlers levels declared members left q r read_handlers → handlers ≡ None → handler ≡ None
+        → SubTail levels declared scope old p handlers handler label now q
+        → SubTail levels declared scope old p (Some (map handler_view read_handlers)) handler label left r
     unfolding block_placed_if block_of_if handlers_placed handlers_spelled
-    tail_handlers handlers handler hs read_handlers inner left last final is first may met spelled neither free t =
-        let none = no_handler block scope t.between after t.every
-        (subst (λ h. (h, after) ≡ block_of_if block scope t.between t.every) free t.every_spelled) in
-        let empty = no_handlers block scope numbers t.between t.reasons
-        (subst (λ h. (h, t.between) ≡ handlers_spelled block scope numbers t.reasons) neither t.reasons_spelled) in
-        let same = nothing_asked places scope t.every t.mid next none.0 t.second in
-        let before = none_asked version places scope t.reasons start t.mid empty.0 t.first in
+    tail_handlers handlers handler read_handlers members left r is late done neither free t =
+        let k = 5 * levels + 1 in
+        let version = declared.version in
+        let places = block_placed (setting_of declared) levels in
+        let spelling = block_of (setting_of declared) levels in
+        let after = numbers_of q.numbering in
+        let hs = done.value in
+        let none = no_handler spelling scope t.between after t.every
+        (subst (λ h. (h, after) ≡ block_of_if spelling scope t.between t.every) free t.every_spelled) in
+        let empty = no_handlers spelling scope (numbers_of p.numbering) t.between t.reasons
+        (subst (λ h. (h, t.between) ≡ handlers_spelled spelling scope (numbers_of p.numbering) t.reasons) neither t.reasons_spelled) in
+        let counted = none_asked version places scope t.reasons p.counts t.mid empty.0 t.first
+        ∙ nothing_asked places scope t.every t.mid q.counts none.0 t.second in
+        let value = subst (λ s. (map handler_view read_handlers, numbers_of r.numbering) ≡ members_of spelling s after hs) t.same
+        done.spelled in
+        let first = reads_deeper (suc (5 * levels)) k (Token.begin_object ∷ members) (object hs) left (omega arith)
+        (reads_object (5 * levels) members hs left done.reads) in
         let bare : Data → Members = λ body. sub_members body None None label in
         record {
           reasons = Some hs;
           every = None;
-          mid = last;
-          between = final;
-          reads = λ body ms new read. t.reads body ms new
-              (subst (λ e. ReadsMembers k (sub_members body t.reasons e label) now ms new) (sym none.0)
-              (subst (λ r. ReadsMembers k (sub_members body r None label) now ms new) (sym empty.0)
-              (reads_member k (bare body) (codes "handlers") now inner left new (object hs) ms is (read_key-shorter _ _ _ is) first
-              (subst (λ found. ReadsMembers k found left ms new) (sym (put_handlers body hs label)) read))));
-          allowed = may;
-          first = subst (λ c. AreMet c (members_placed version places scope hs) last) (sym (before ∙ same)) met;
+          mid = r.counts;
+          between = numbers_of r.numbering;
+          reads = λ body ms rest read. t.reads body ms rest
+              (subst (λ e. ReadsMembers k (sub_members body t.reasons e label) now ms rest) (sym none.0)
+              (subst (λ o. ReadsMembers k (sub_members body o None label) now ms rest) (sym empty.0)
+              (reads_member k (bare body) (codes "handlers") now (Token.begin_object ∷ members) left rest (object hs) ms is
+              (read_key-shorter _ _ _ is) first
+              (subst (λ found. ReadsMembers k found left ms rest) (sym (put_handlers body hs label)) read))));
+          allowed = le-leb _ _ late;
+          first = subst (λ c. AreMet c (members_placed version places scope hs) r.counts) (sym counted)
+              (subst (λ s. AreMet q.counts (members_placed version places s hs) r.counts) t.same done.met);
           second = refl;
-          reasons_spelled = ap (spelled_map (λ (xs : List (ℕ × Block)). Some xs)) spelled
-              ∙ ap (λ n. spelled_map (λ (xs : List (ℕ × Block)). Some xs) (members_of block scope n hs)) (sym (empty.1 ∙ none.1));
-          every_spelled = ap (λ h. (h, final)) free;
+          reasons_spelled = ap (spelled_map (λ (xs : List (ℕ × tree.Block)). Some xs)) value
+              ∙ ap (λ n. spelled_map (λ (xs : List (ℕ × tree.Block)). Some xs) (members_of spelling scope n hs)) (sym (empty.1 ∙ none.1));
+          every_spelled = ap (λ h. (h, numbers_of r.numbering)) free;
+          same = done.scope ∙ t.same;
         }
 
 -- ---- the whole
@@ -286,9 +314,9 @@ module _ (version : ℕ) (places : Places) (block : Spelling) (scope : Scope) (b
       ∙ part_met mid next (member_named (codes "handler")) (block_placed_if places scope every) nothing third)
 
   -- what the parts spell is what the whole spells
-  pub sub_spelled : (numbers after between last : Numbers) (b : Block) (handlers : Option (List (ℕ × Block))) (handler : Option Block)
-      → (b, after) ≡ block scope numbers body → (handlers, between) ≡ handlers_spelled block scope after reasons
-      → (handler, last) ≡ block_of_if block scope between every
+  pub sub_spelled : (numbers after between last : Numbers) (b : tree.Block) (handlers : Option (List (ℕ × tree.Block)))
+      (handler : Option tree.Block) → (b, after) ≡ block scope numbers body
+      → (handlers, between) ≡ handlers_spelled block scope after reasons → (handler, last) ≡ block_of_if block scope between every
       → (tried b handlers handler (is_some label), last) ≡ sub_of block scope numbers whole
   unfolding sub_of
   sub_spelled numbers after between last b handlers handler first second third =
@@ -337,6 +365,43 @@ module _ (setting : Setting) (scope : Scope) (d : Data) where
   pub sub_step_scope : sort_of d ≡ Some Sub → scope_after setting scope d ≡ with_label (label_in d) Outcome scope
   unfolding scope_after
   sub_step_scope is = rw is refl
+
+-- ---- children
+
+-- a child before others, whose label is new among those of the children before it
+pub children_more : (i levels : ℕ) (declared : Declared) (old mid new : List Token) (before after : Scope) (p q r : ReaderState)
+    (child : Subaction) (label : Option (List ℕ)) (children : List Subaction) → after_end_array old ≡ None
+    → SpellsSub levels declared old mid p q child label → IsMet q.counts (label_asked declared.version before [] label) q.counts
+    → SpellsChildren (i + 1) levels declared mid new (with_label label Outcome before) after q r children
+    → SpellsChildren i levels declared old new before after p r (child ∷ children)
+children_more i levels declared old mid new before after p q r child label children going first named later =
+    let version = declared.version in
+    let places = block_placed (setting_of declared) levels in
+    let block = block_of (setting_of declared) levels in
+    let scope = scope_of p.labels.entries in
+    let d = first.value in
+    let ds = later.value in
+    let next = with_label (label_in d) Outcome before in
+    let labels = later.labels ∙ ap (λ o. labels_of (with_label o Outcome before) ds) first.named in
+    let spelled = later.spelled ∙ ap (λ s. children_spelled block s (numbers_of q.numbering) ds) first.scope in
+    let met : AreUnseen after scope → AreMet q.counts (children_placed version places scope next (i + 1) ds) r.counts = λ unseen.
+    subst (λ o. AreMet q.counts (children_placed version places scope (with_label o Outcome before) (i + 1) ds) r.counts) first.named
+    (subst (λ s. AreMet q.counts (children_placed version places s (with_label label Outcome before) (i + 1) ds) r.counts) first.scope
+    (later.met (subst (λ s. AreUnseen after s) (sym first.scope) unseen))) in
+    let allowed : AreUnseen after scope → IsMet q.counts (label_asked version scope before (label_in d)) q.counts = λ unseen.
+    child_label_met version scope before (label_in d) ds q.counts (subst (λ (s : Scope). AreUnseen s scope) labels unseen)
+    (subst (λ o. IsMet q.counts (label_asked version before [] o) q.counts) first.named named) in
+    record {
+      value = item d ds;
+      reads = reads_item (5 * levels + 2) old mid new d ds going first.reads later.reads;
+      met = λ unseen. part_met p.counts q.counts (item_at i) (sub_placed version places scope before d)
+          (children_placed version places scope next (i + 1) ds) (first.met before (allowed unseen)) ∙ met unseen;
+      spelled = ap (λ (w : List Tried × Numbers). (subaction_view child ∷ w.0, w.1)) spelled
+          ∙ ap (λ (w : Tried × Numbers). (w.0 ∷ (children_spelled block scope w.1 ds).0, (children_spelled block scope w.1 ds).1))
+          first.spelled;
+      labels = labels;
+      scope = later.scope ∙ first.scope;
+    }
 
 -- ---- parallel steps
 

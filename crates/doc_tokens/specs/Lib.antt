@@ -1,4 +1,5 @@
 pub mod Pulled
+pub mod PulledBlocks
 pub mod PulledObjects
 pub mod Passed
 pub mod Ranges

@@ -1,5 +1,5 @@
 -- What is taken from the tokens of a text, as the data that `serde_json` reads from them.
-use Rattle.std.specs.Prelude.{⊤, ◌≡◌, ◌≤◌, ◌++◌, ℕ, Bool, List, length, Option, Some, None, codes, nat_le, true}
+use Rattle.std.specs.Prelude.{⊤, ◌≡◌, ◌≤◌, ◌∷◌, ◌++◌, ℕ, Bool, List, length, Option, Some, None, codes, nat_le, true}
 use Rattle.std.proofs.Common.{Less}
 use Rattle.std.specs.Ordering.{nat_cmp}
 use Rattle.std.specs.Cmp.Lexicographic.{slice_cmp}
@@ -7,12 +7,8 @@ use Rattle.json.specs.Token.{Token}
 use Rattle.json.specs.Json as json
 use Rattle.serde_json.specs.Data.{Data, array, boolean, number, object, string, unsigned, Items, item, Members, no_members, member, put}
 use Rattle.serde_json.specs.Read.{of_json, of_items, of_members, converted}
-use Rattle.meaning.specs.Trees.{Block}
-use Rattle.doc_tree.specs.declared.counts.Counts.{Counts}
-use Rattle.doc_tree.specs.Answer.{AreMet}
-use Rattle.doc_tree.specs.Places.{Places, block_placed_if, handlers_placed}
-use Rattle.doc_tree.specs.Scope.{Numbers, Scope}
-use Rattle.doc_tree.specs.Spelled.{Spelling, block_of_if, handlers_spelled, reason_of, spelled_map}
+use Rattle.doc_tree.specs.Scope.{Numbers}
+use Rattle.doc_tree.specs.Spelled.{reason_of, spelled_map}
 use Rattle.doc_tree.specs.Asked.{has_fills}
 use Rattle.meaning.specs.declared.template.Refusal.{Refusal}
 use Rattle.meaning.specs.declared.template.Refusal.TheVariants.{GoesOn, Aborts}
@@ -31,6 +27,10 @@ ReadsItems k old ds new = (depth n : ℕ) → k ≤ depth → length old ≤ n
 abbrev pub ReadsMembers : ℕ → Members → List Token → Members → List Token → Type 0
 ReadsMembers k found old ms new = (depth n : ℕ) → k ≤ depth → length old ≤ n
     → converted (λ js. of_members js found) (json.members (json.value depth) n old) ≡ Some (ms, new)
+
+-- the tokens of an object whose first key is this, before those that follow the key
+abbrev pub first_key : List ℕ → List Token → List Token
+first_key name rest = Token.begin_object ∷ Token.key name ∷ rest
 
 -- a step's members, once its label is among them
 abbrev pub labelled : Option (List ℕ) → Members → Members
@@ -89,22 +89,6 @@ IsAfter reason (Some before) = slice_cmp nat_cmp before reason ≡ Less
 abbrev pub are_allowed : ℕ → Option Members → Bool
 are_allowed version None = true
 are_allowed version (Some reasons) = nat_le 3 version
-
--- what was read after a subaction's body, from the tokens `old` on: `now` are left
-pub record SubTail (k version : ℕ) (places : Places) (block : Spelling) (scope : Scope) (old : List Token) (start : Counts)
-    (numbers : Numbers) (handlers : Option (List (ℕ × Block))) (handler : Option Block) (label : Option (List ℕ))
-    (now : List Token) (next : Counts) (after : Numbers) : Type 0 where
-  pub reasons : Option Members
-  pub every : Option Data
-  pub mid : Counts
-  pub between : Numbers
-  pub reads : (body : Data) (ms : Members) (new : List Token) → ReadsMembers k (sub_members body reasons every label) now ms new
-      → ReadsMembers k (sub_members body None None None) old ms new
-  pub allowed : are_allowed version reasons ≡ true
-  pub first : AreMet start (handlers_placed version places scope reasons) mid
-  pub second : AreMet mid (block_placed_if places scope every) next
-  pub reasons_spelled : (handlers, between) ≡ handlers_spelled block scope numbers reasons
-  pub every_spelled : (handler, after) ≡ block_of_if block scope between every
 
 -- ---- conditions and aborts
 

@@ -34,6 +34,10 @@ pub record Reached : Type 0 where
 abbrev pub reached : ReaderState → List Block → Reached
 reached state blocks = record { counts = state.counts; numbers = numbers_of state.numbering; blocks = blocks }
 
+-- the state where the transaction of a number begins
+abbrev pub at_transaction : ℕ → ReaderState → ReaderState
+at_transaction n state = record state { counts = record state.counts { transaction = n } }
+
 -- the blocks of other transactions, and their numbers, after these
 abbrev pub behind : List Block → List Block × Numbers → List Block × Numbers
 behind blocks rest = (blocks ++ rest.0, rest.1)

@@ -15,13 +15,12 @@ ghost use Rattle.serde_json.specs.Data.{Data, Items, Members, Num, member, negat
 ghost use Rattle.serde_json.specs.Find.{as_i64, at, of_integer};
 ghost use Rattle.serde_json.specs.Read.{number_of};
 ghost use Rattle.serde_json.specs.View.{items_view, members_view, view};
-ghost use Rattle.batch.specs.Views.{step_view};
-ghost use Rattle.doc_tree.specs.Asked.{amount_asked, argument_asked, arguments_asked, has_fills, index_of, reason_asked, scope_after, subject_of};
-ghost use Rattle.doc_tree.specs.Places.{Places, step_placed};
-ghost use Rattle.doc_tree.specs.Answer.{AreMet, IsMet};
-ghost use Rattle.doc_tokens.specs.Pulled.{Begins, ReadsItems, ReadsMembers, ReadsValue, in_order, labelled, may_abort, op_array, reason_in, refusal_told, with_abort};
-ghost use Rattle.doc_tree.specs.Scope.{Numbers, is_named, label_number, numbers_of, scope_of, setting_of};
-ghost use Rattle.doc_tree.specs.Spelled.{Spelling, argument_of, step_of, template_of};
+ghost use Rattle.doc_tree.specs.Asked.{amount_asked, argument_asked, arguments_asked, has_fills, index_of, reason_asked, subject_of};
+ghost use Rattle.doc_tree.specs.Answer.{IsMet};
+ghost use Rattle.doc_tokens.specs.Pulled.{Begins, ReadsItems, ReadsMembers, ReadsValue, first_key, in_order, labelled, may_abort, op_array, reason_in, refusal_told, with_abort};
+ghost use Rattle.doc_tokens.specs.PulledBlocks.{SpellsPlainStep};
+ghost use Rattle.doc_tree.specs.Scope.{Numbers, is_named, label_number, numbers_of, scope_of};
+ghost use Rattle.doc_tree.specs.Spelled.{argument_of, template_of};
 ghost use Rattle.doc_rules.specs.declared.rule.OperandPlace.{OperandPlace};
 ghost use Rattle.batch.specs.Names.{is_name};
 ghost use Rattle.doc_rules.specs.Limits.{limits_of};
@@ -386,8 +385,8 @@ struct OperationRest<'a> {
     abort: Option<Option<&'a str>>,
 }
 
-/// The label of an operation, if it has one, its `else`, if it has one, and its end. The first token
-/// of these has been read.
+/// The label of an operation, if it has one, its `else`, if it has one, and its end. The first
+/// token of these has been read.
 fn pull_operation_rest<'a>(
     first: Token<'a>,
     reader: &mut Reader<'a>,
@@ -455,14 +454,8 @@ pub(crate) fn pull_operation(
     declared: &Declared,
     state: &mut ReaderState,
 ) -> Result<Step, Stop>
-    ensures { IfOk result (λ step. (d : Data) × ReadsValue 3 (token.begin_object
-        ∷ token.key (codes "op") ∷ reader.old) d reader.new × ((places : Places)
-        → AreMet state.old.counts (step_placed places (setting_of declared.now)
-        (scope_of state.old.labels.entries) d) state.new.counts) × ((block : Spelling)
-        → (step_view step, numbers_of state.new.numbering)
-        ≡ step_of block (setting_of declared.now) (scope_of state.old.labels.entries) (numbers_of
-        state.old.numbering) d) × (scope_of state.new.labels.entries
-        ≡ scope_after (setting_of declared.now) (scope_of state.old.labels.entries) d)) }
+    ensures { IfOk result (SpellsPlainStep 3 declared.now
+        (first_key (codes "op") reader.old) reader.new state.old state.new) }
 {
     pull_begin_array(reader)?;
     let object = pull_text(reader)?;
@@ -595,8 +588,8 @@ pub(crate) fn pull_object(
     reader: &mut Reader<'_>,
     depth: usize,
 ) -> Result<Value, Stop>
-    ensures { IfOk result (λ v. ReadsValue (depth + 1) (token.begin_object ∷ token.key name.now
-        ∷ reader.old) (view v) reader.new) }
+    ensures { IfOk result (λ v. ReadsValue (depth + 1) (first_key name.now reader.old) (view v)
+        reader.new) }
 {
     pull_more_members(alloc, name, reader, depth, Map::new(alloc))
 }

@@ -11,15 +11,16 @@
 ghost use Rattle.std.specs.Prelude.{◌≡◌, ℕ, List, [], ◌∷◌, codes, map, Option, option_map, true, Some, None, IfOk, ◌<◌, ◌+◌, ◌*◌, ◌≤◌};
 ghost use Rattle.json.specs.Json.{read_key};
 ghost use Rattle.json.specs.Token as token;
-ghost use Rattle.serde_json.specs.Data.{Data, Items, Members, no_members, object, put};
-ghost use Rattle.batch.specs.Views.{block_view, handler_view, step_view, subaction_view};
-ghost use Rattle.doc_tree.specs.Asked.{is_abort, label_asked, label_in, labels_of, part, scope_after, sort_of, test_asked};
-ghost use Rattle.doc_tree.specs.Places.{Places, block_placed, block_placed_if, children_placed, member_placed, members_placed, nothing, step_placed, steps_placed, sub_placed};
+ghost use Rattle.serde_json.specs.Data.{Data, Members, put};
+ghost use Rattle.batch.specs.Views.{block_view, handler_view};
+ghost use Rattle.doc_tree.specs.Asked.{is_abort, part, test_asked};
+ghost use Rattle.doc_tree.specs.Places.{block_placed, block_placed_if, member_placed, nothing};
 ghost use Rattle.doc_tree.specs.Answer.{AreMet, IsMet};
 ghost use Rattle.doc_tree.specs.declared.counts.Counts.{Counts};
-ghost use Rattle.doc_tokens.specs.Pulled.{IsAfter, ReadsItems, ReadsMembers, ReadsValue, SubTail, TestKey, abort_step, if_step, test_key, with_else};
-ghost use Rattle.doc_tree.specs.Scope.{AreUnseen, Extends, Scope, numbers_of, scope_of, setting_of};
-ghost use Rattle.doc_tree.specs.Spelled.{Spelling, block_of, block_of_if, children_spelled, member_of, members_of, or_no_step, spelled_map, step_of, steps_spelled, sub_of, test_of};
+ghost use Rattle.doc_tokens.specs.Pulled.{IsAfter, ReadsMembers, ReadsValue, TestKey, abort_step, first_key, if_step, test_key, with_else};
+ghost use Rattle.doc_tokens.specs.PulledBlocks.{SpellsBlock, SpellsChildren, SpellsHandlers, SpellsPlainStep, SpellsStep, SpellsSteps, SpellsSub, SubTail};
+ghost use Rattle.doc_tree.specs.Scope.{numbers_of, scope_of, setting_of};
+ghost use Rattle.doc_tree.specs.Spelled.{block_of, block_of_if, member_of, or_no_step, spelled_map, test_of};
 ghost use Rattle.meaning.specs.declared.limits.TheConstants.{MAX_DEPTH};
 
 use crate::pull::{
@@ -36,7 +37,7 @@ use doc_tree::hashing::Labels;
 use doc_tree::heads::{if_step, no_labels, subaction_of};
 use doc_tree::labels::{add_new_label, leave_block};
 use doc_tree::state::{Numbering, ReaderState, ReasonOrder};
-use doc_tree::steps::{Sort, read_members, read_reason, read_step, reason_number};
+use doc_tree::steps::{read_members, read_reason, read_step, reason_number};
 use json::{Reader, Token};
 use meaning::Test;
 use serde_json::Map;
@@ -102,14 +103,8 @@ fn pull_ascending(
     state: &mut ReaderState,
 ) -> Result<Vec<Handler>, Stop>
     requires few { levels ≤ MAX_DEPTH }
-    ensures { IfOk result (λ handlers. (hs : Members)
-        × ReadsMembers (5 * levels) no_members reader.old hs reader.new
-        × AreMet state.old.counts (members_placed declared.now.version
-        (block_placed (setting_of declared.now) levels) (scope_of state.old.labels.entries) hs)
-        state.new.counts × ((map handler_view handlers.items, numbers_of state.new.numbering)
-        ≡ members_of (block_of (setting_of declared.now) levels) (scope_of state.old.labels.entries)
-        (numbers_of state.old.numbering) hs) × (scope_of state.new.labels.entries
-        ≡ scope_of state.old.labels.entries)) }
+    ensures { IfOk result (λ handlers. SpellsHandlers levels declared.now
+        reader.old reader.new state.old state.new handlers.items) }
 {
     let mut handlers = Vec::new(alloc);
     let mut before = None;
@@ -133,14 +128,8 @@ fn pull_sorted(
     state: &mut ReaderState,
 ) -> Result<Vec<Handler>, Stop>
     requires few { levels ≤ MAX_DEPTH }
-    ensures { IfOk result (λ handlers. (hs : Members)
-        × ReadsMembers (5 * levels) no_members reader.old hs reader.new
-        × AreMet state.old.counts (members_placed declared.now.version
-        (block_placed (setting_of declared.now) levels) (scope_of state.old.labels.entries) hs)
-        state.new.counts × ((map handler_view handlers.items, numbers_of state.new.numbering)
-        ≡ members_of (block_of (setting_of declared.now) levels) (scope_of state.old.labels.entries)
-        (numbers_of state.old.numbering) hs) × (scope_of state.new.labels.entries
-        ≡ scope_of state.old.labels.entries)) }
+    ensures { IfOk result (λ handlers. SpellsHandlers levels declared.now
+        reader.old reader.new state.old state.new handlers.items) }
 {
     let members = pull_members(alloc, reader, 5 * levels, Map::new(alloc))?;
     let handlers = read_members(alloc, &members, levels, declared, state)?;
@@ -157,14 +146,10 @@ fn pull_handlers(
     state: &mut ReaderState,
 ) -> Result<Vec<Handler>, Stop>
     requires few { levels ≤ MAX_DEPTH }
-    ensures { IfOk result (λ handlers. (hs : Members)
-        × ReadsValue (5 * levels + 1) reader.old (object hs) reader.new × (3 ≤ declared.now.version)
-        × AreMet state.old.counts (members_placed declared.now.version
-        (block_placed (setting_of declared.now) levels) (scope_of state.old.labels.entries) hs)
-        state.new.counts × ((map handler_view handlers.items, numbers_of state.new.numbering)
-        ≡ members_of (block_of (setting_of declared.now) levels) (scope_of state.old.labels.entries)
-        (numbers_of state.old.numbering) hs) × (scope_of state.new.labels.entries
-        ≡ scope_of state.old.labels.entries)) }
+    ensures { IfOk result (λ handlers. (inside : List token.Token)
+        × (reader.old ≡ token.begin_object ∷ inside) × (3 ≤ declared.now.version)
+        × SpellsHandlers levels declared.now inside reader.new state.old state.new
+        handlers.items) }
 {
     if declared.version < 3 {
         return Err(Stop::OtherForm);
@@ -194,14 +179,11 @@ fn pull_sub_rest<'a>(
     state: &mut ReaderState,
 ) -> Result<SubRest<'a>, Stop>
     requires few { levels ≤ MAX_DEPTH }
-    ensures { IfOk result (λ rest. (now : List token.Token)
-        × SubTail (5 * levels + 1) declared.now.version (block_placed (setting_of declared.now)
-        levels) (block_of (setting_of declared.now) levels) (scope_of state.old.labels.entries)
-        reader.old state.old.counts (numbers_of state.old.numbering) (option_map (λ list.
-        map handler_view list.items) rest.handlers) (option_map block_view rest.handler) (option_map
-        (λ text. text.now) rest.label) now state.new.counts (numbers_of state.new.numbering)
-        × (read_key now ≡ Some (None, reader.new)) × (scope_of state.new.labels.entries
-        ≡ scope_of state.old.labels.entries)) }
+    ensures { IfOk result (λ rest. (inside : List token.Token) × SubTail levels declared.now
+        (scope_of state.old.labels.entries) reader.old state.old
+        (option_map (λ list. map handler_view list.items) rest.handlers)
+        (option_map block_view rest.handler) (option_map (λ text. text.now) rest.label)
+        inside state.new × (read_key inside ≡ Some (None, reader.new))) }
 {
     let mut handlers = None;
     let mut handler = None;
@@ -234,17 +216,9 @@ fn pull_sub<'a>(
     state: &mut ReaderState,
 ) -> Result<(Subaction, Option<&'a str>), Stop>
     requires few { levels ≤ MAX_DEPTH }
-    ensures { IfOk result (λ read. (d : Data) × ReadsValue (5 * levels + 2) (token.begin_object
-        ∷ token.key (codes "sub") ∷ reader.old) d reader.new × ((earlier : Scope)
-        → IsMet state.new.counts (label_asked declared.now.version
-        (scope_of state.old.labels.entries) earlier (label_in d)) state.new.counts
-        → AreMet state.old.counts (sub_placed declared.now.version
-        (block_placed (setting_of declared.now) levels) (scope_of state.old.labels.entries) earlier
-        d) state.new.counts) × ((subaction_view read.0, numbers_of state.new.numbering)
-        ≡ sub_of (block_of (setting_of declared.now) levels) (scope_of state.old.labels.entries)
-        (numbers_of state.old.numbering) d) × (option_map (λ text. text.now) read.1 ≡ label_in d)
-        × (sort_of d ≡ Some Sort.Sub) × (scope_of state.new.labels.entries
-        ≡ scope_of state.old.labels.entries)) }
+    ensures { IfOk result (λ read. SpellsSub levels declared.now
+        (first_key (codes "sub") reader.old) reader.new state.old state.new read.0
+        (option_map (λ text. text.now) read.1)) }
 {
     state.counts.one_more_node(declared.version)?;
     let body = pull_block(alloc, reader, levels, declared, state)?;
@@ -264,15 +238,8 @@ fn pull_sub_step(
     state: &mut ReaderState,
 ) -> Result<Step, Stop>
     requires few { levels ≤ MAX_DEPTH }
-    ensures { IfOk result (λ step. (d : Data) × ReadsValue (5 * levels + 2) (token.begin_object
-        ∷ token.key (codes "sub") ∷ reader.old) d reader.new
-        × AreMet state.old.counts (step_placed (block_placed (setting_of declared.now) levels)
-        (setting_of declared.now) (scope_of state.old.labels.entries) d) state.new.counts
-        × ((step_view step, numbers_of state.new.numbering)
-        ≡ step_of (block_of (setting_of declared.now) levels) (setting_of declared.now) (scope_of
-        state.old.labels.entries) (numbers_of state.old.numbering) d)
-        × (scope_of state.new.labels.entries ≡ scope_after (setting_of declared.now)
-        (scope_of state.old.labels.entries) d)) }
+    ensures { IfOk result (SpellsStep (5 * levels + 2) levels declared.now
+        (first_key (codes "sub") reader.old) reader.new state.old state.new) }
 {
     let (read, label) = pull_sub(alloc, reader, levels, declared, state)?;
     let step = new_sub_step(
@@ -300,17 +267,9 @@ fn pull_children(
     state: &mut ReaderState,
 ) -> Result<Vec<Subaction>, Stop>
     requires few { levels ≤ MAX_DEPTH }
-    ensures { IfOk result (λ children. (ds : Items)
-        × ReadsItems (5 * levels + 2) reader.old ds reader.new
-        × (AreUnseen (scope_of earlier.new.entries) (scope_of state.old.labels.entries)
-        → AreMet state.old.counts (children_placed declared.now.version
-        (block_placed (setting_of declared.now) levels) (scope_of state.old.labels.entries)
-        (scope_of earlier.old.entries) 0 ds) state.new.counts)
-        × ((map subaction_view children.items, numbers_of state.new.numbering)
-        ≡ children_spelled (block_of (setting_of declared.now) levels) (scope_of
-        state.old.labels.entries) (numbers_of state.old.numbering) ds)
-        × (scope_of earlier.new.entries ≡ labels_of (scope_of earlier.old.entries) ds)
-        × (scope_of state.new.labels.entries ≡ scope_of state.old.labels.entries)) }
+    ensures { IfOk result (λ children. SpellsChildren 0 levels declared.now
+        reader.old reader.new (scope_of earlier.old.entries) (scope_of earlier.new.entries)
+        state.old state.new children.items) }
 {
     let mut children = Vec::new(alloc);
     while !reader.take_end_array() {
@@ -341,15 +300,8 @@ fn pull_parallel(
     state: &mut ReaderState,
 ) -> Result<Step, Stop>
     requires few { levels ≤ MAX_DEPTH }
-    ensures { IfOk result (λ step. (d : Data) × ReadsValue (5 * levels + 4) (token.begin_object
-        ∷ token.key (codes "parallel") ∷ reader.old) d reader.new
-        × AreMet state.old.counts (step_placed (block_placed (setting_of declared.now) levels)
-        (setting_of declared.now) (scope_of state.old.labels.entries) d) state.new.counts
-        × ((step_view step, numbers_of state.new.numbering)
-        ≡ step_of (block_of (setting_of declared.now) levels) (setting_of declared.now) (scope_of
-        state.old.labels.entries) (numbers_of state.old.numbering) d)
-        × (scope_of state.new.labels.entries ≡ scope_after (setting_of declared.now)
-        (scope_of state.old.labels.entries) d)) }
+    ensures { IfOk result (SpellsStep (5 * levels + 4) levels declared.now
+        (first_key (codes "parallel") reader.old) reader.new state.old state.new) }
 {
     begin_parallel(reader, declared.version, &mut state.counts)?;
     let mut earlier = no_labels(alloc, &state.labels);
@@ -448,15 +400,8 @@ fn pull_if(
     state: &mut ReaderState,
 ) -> Result<Step, Stop>
     requires few { levels ≤ MAX_DEPTH }
-    ensures { IfOk result (λ step. (d : Data) × ReadsValue (5 * levels + 1) (token.begin_object
-        ∷ token.key (codes "if") ∷ reader.old) d reader.new
-        × AreMet state.old.counts (step_placed (block_placed (setting_of declared.now) levels)
-        (setting_of declared.now) (scope_of state.old.labels.entries) d) state.new.counts
-        × ((step_view step, numbers_of state.new.numbering)
-        ≡ step_of (block_of (setting_of declared.now) levels) (setting_of declared.now) (scope_of
-        state.old.labels.entries) (numbers_of state.old.numbering) d)
-        × (scope_of state.new.labels.entries ≡ scope_after (setting_of declared.now)
-        (scope_of state.old.labels.entries) d)) }
+    ensures { IfOk result (SpellsStep (5 * levels + 1) levels declared.now
+        (first_key (codes "if") reader.old) reader.new state.old state.new) }
 {
     let head = pull_if_head(alloc, reader, declared.version, state)?;
     let then = pull_block(alloc, reader, levels, declared, state)?;
@@ -467,10 +412,10 @@ fn pull_if(
 
 /// The reason of an abort, where it has one and the version has reasons, and the step's end.
 fn pull_reason<'a>(reader: &mut Reader<'a>, version: u8) -> Result<Option<&'a str>, Stop>
-    ensures { IfOk result (λ reason. ReadsValue 1 (token.begin_object ∷ token.key (codes "abort")
-        ∷ reader.old) (abort_step (option_map (λ text. text.now) reason)) reader.new
-        × (is_abort version (part (codes "abort") (abort_step (option_map (λ text.
-        text.now) reason))) ≡ true)) }
+    ensures { IfOk result (λ reason.
+        let step = abort_step (option_map (λ text. text.now) reason) in
+        ReadsValue 1 (first_key (codes "abort") reader.old) step reader.new
+        × (is_abort version (part (codes "abort") step) ≡ true)) }
 {
     match reader.next() {
         Some(Token::Bool(true)) => {
@@ -495,14 +440,8 @@ fn pull_abort(
     declared: &Declared,
     state: &mut ReaderState,
 ) -> Result<Step, Stop>
-    ensures { IfOk result (λ step. (d : Data) × ReadsValue 1 (token.begin_object
-        ∷ token.key (codes "abort") ∷ reader.old) d reader.new × ((places : Places)
-        → AreMet state.old.counts (step_placed places (setting_of declared.now)
-        (scope_of state.old.labels.entries) d) state.new.counts) × ((block : Spelling)
-        → (step_view step, numbers_of state.new.numbering)
-        ≡ step_of block (setting_of declared.now) (scope_of state.old.labels.entries) (numbers_of
-        state.old.numbering) d) × (scope_of state.new.labels.entries
-        ≡ scope_after (setting_of declared.now) (scope_of state.old.labels.entries) d)) }
+    ensures { IfOk result (SpellsPlainStep 1 declared.now
+        (first_key (codes "abort") reader.old) reader.new state.old state.new) }
 {
     let reason = pull_reason(reader, declared.version)?;
     state.counts.one_more_node(declared.version)?;
@@ -514,8 +453,7 @@ fn pull_abort(
 
 /// The beginning of a step, with its first key.
 fn pull_first_key<'a>(reader: &mut Reader<'a>) -> Result<&'a str, Stop>
-    ensures { IfOk result (λ name. reader.old ≡ token.begin_object ∷ token.key name.now
-        ∷ reader.new) }
+    ensures { IfOk result (λ name. reader.old ≡ first_key name.now reader.new) }
 {
     pull_begin_object(reader)?;
     pull_some_key(reader)
@@ -531,15 +469,8 @@ fn pull_other_step(
     state: &mut ReaderState,
 ) -> Result<Step, Stop>
     requires few { levels ≤ MAX_DEPTH }
-    ensures { IfOk result (λ step. (d : Data) × ReadsValue (5 * levels + 4) (token.begin_object
-        ∷ token.key name.now ∷ reader.old) d reader.new
-        × AreMet state.old.counts (step_placed (block_placed (setting_of declared.now) levels)
-        (setting_of declared.now) (scope_of state.old.labels.entries) d) state.new.counts
-        × ((step_view step, numbers_of state.new.numbering)
-        ≡ step_of (block_of (setting_of declared.now) levels) (setting_of declared.now) (scope_of
-        state.old.labels.entries) (numbers_of state.old.numbering) d)
-        × (scope_of state.new.labels.entries ≡ scope_after (setting_of declared.now)
-        (scope_of state.old.labels.entries) d)) }
+    ensures { IfOk result (SpellsStep (5 * levels + 4) levels declared.now
+        (first_key name.now reader.old) reader.new state.old state.new) }
 {
     // From a block to the next below it are at most five levels: the array of its steps, a step, the
     // array of its children, a child, and its handlers.
@@ -558,14 +489,8 @@ fn pull_step(
     state: &mut ReaderState,
 ) -> Result<Step, Stop>
     requires few { levels ≤ MAX_DEPTH }
-    ensures { IfOk result (λ step. (d : Data) × ReadsValue (5 * levels + 4) reader.old d reader.new
-        × AreMet state.old.counts (step_placed (block_placed (setting_of declared.now) levels)
-        (setting_of declared.now) (scope_of state.old.labels.entries) d) state.new.counts
-        × ((step_view step, numbers_of state.new.numbering)
-        ≡ step_of (block_of (setting_of declared.now) levels) (setting_of declared.now) (scope_of
-        state.old.labels.entries) (numbers_of state.old.numbering) d)
-        × (scope_of state.new.labels.entries ≡ scope_after (setting_of declared.now)
-        (scope_of state.old.labels.entries) d)) }
+    ensures { IfOk result (SpellsStep (5 * levels + 4) levels declared.now
+        reader.old reader.new state.old state.new) }
 {
     let name = pull_first_key(reader)?;
     match name {
@@ -625,14 +550,8 @@ fn pull_steps(
     state: &mut ReaderState,
 ) -> Result<Vec<Step>, Stop>
     requires few { levels ≤ MAX_DEPTH }
-    ensures { IfOk result (λ steps. (ds : Items)
-        × ReadsItems (5 * levels + 4) reader.old ds reader.new
-        × AreMet state.old.counts (steps_placed (block_placed (setting_of declared.now) levels)
-        (setting_of declared.now) (scope_of state.old.labels.entries) 0 ds) state.new.counts
-        × ((map step_view steps.items, numbers_of state.new.numbering)
-        ≡ steps_spelled (block_of (setting_of declared.now) levels) (setting_of declared.now)
-        (scope_of state.old.labels.entries) (numbers_of state.old.numbering) ds)
-        × Extends (scope_of state.old.labels.entries) (scope_of state.new.labels.entries)) }
+    ensures { IfOk result (λ steps. SpellsSteps 0 levels declared.now reader.old reader.new
+        state.old state.new steps.items) }
 {
     let mut steps = spare_list(alloc, &mut state.spares);
     while !reader.take_end_array() {
@@ -651,14 +570,8 @@ pub(crate) fn pull_block(
     state: &mut ReaderState,
 ) -> Result<Block, Stop>
     requires few { levels ≤ MAX_DEPTH }
-    ensures { IfOk result (λ block. (d : Data) × ReadsValue (5 * levels) reader.old d reader.new
-        × AreMet state.old.counts
-        (block_placed (setting_of declared.now) levels (scope_of state.old.labels.entries) d)
-        state.new.counts
-        × ((block_view block, numbers_of state.new.numbering)
-        ≡ block_of (setting_of declared.now) levels (scope_of state.old.labels.entries)
-        (numbers_of state.old.numbering) d)
-        × (scope_of state.new.labels.entries ≡ scope_of state.old.labels.entries)) }
+    ensures { IfOk result (SpellsBlock levels declared.now reader.old reader.new
+        state.old state.new) }
 {
     pull_begin_array(reader)?;
     pull_block_begun(alloc, reader, levels, declared, state)
@@ -674,15 +587,8 @@ pub(crate) fn pull_block_begun(
     state: &mut ReaderState,
 ) -> Result<Block, Stop>
     requires few { levels ≤ MAX_DEPTH }
-    ensures { IfOk result (λ block. (d : Data)
-        × ReadsValue (5 * levels) (token.begin_array ∷ reader.old) d reader.new
-        × AreMet state.old.counts
-        (block_placed (setting_of declared.now) levels (scope_of state.old.labels.entries) d)
-        state.new.counts
-        × ((block_view block, numbers_of state.new.numbering)
-        ≡ block_of (setting_of declared.now) levels (scope_of state.old.labels.entries)
-        (numbers_of state.old.numbering) d)
-        × (scope_of state.new.labels.entries ≡ scope_of state.old.labels.entries)) }
+    ensures { IfOk result (SpellsBlock levels declared.now (token.begin_array ∷ reader.old)
+        reader.new state.old state.new) }
 {
     if levels == 0 {
         return Err(Stop::OtherForm);

@@ -7,15 +7,11 @@
 ghost use Rattle.std.specs.Prelude.{◌≡◌, ◌≤◌, Bool, List, [], ◌∷◌, false, length, map, true, IfOk, OnOk};
 ghost use Rattle.json.specs.Token as token;
 ghost use Rattle.batch.specs.Views.{block_view};
-ghost use Rattle.serde_json.specs.Data.{Data};
 ghost use Rattle.meaning.specs.declared.limits.TheConstants.{MAX_DEPTH};
-ghost use Rattle.doc_tree.specs.Answer.{AreMet};
 ghost use Rattle.doc_rules.specs.Limits.{limits_of};
-ghost use Rattle.doc_tree.specs.Places.{transaction_placed};
-ghost use Rattle.doc_tree.specs.Spelled.{block_of};
-ghost use Rattle.doc_tokens.specs.Pulled.{ReadsValue};
+ghost use Rattle.doc_tokens.specs.PulledBlocks.{SpellsBlock};
 ghost use Rattle.doc_cuts.specs.Whole.{is_left, is_open};
-ghost use Rattle.doc_tokens.specs.Ranges.{AreRead, IsBegun, IsHead, left_by, reached};
+ghost use Rattle.doc_tokens.specs.Ranges.{AreRead, IsBegun, IsHead, at_transaction, left_by, reached};
 ghost use Rattle.doc_tree.specs.Scope.{numbers_of, scope_of, setting_of};
 
 use crate::pull::{pull_begin_array, pull_beginning, pull_end, pull_end_object, pull_key};
@@ -47,14 +43,8 @@ fn pull_transaction(
     declared: &Declared,
     state: &mut ReaderState,
 ) -> Result<Block, Stop>
-    requires { scope_of state.old.labels.entries ≡ [] }
-    ensures { IfOk result (λ block. (d : Data)
-        × ReadsValue 120 (token.begin_array ∷ reader.old) d reader.new
-        × AreMet state.old.counts (transaction_placed number (setting_of declared.now) d)
-        state.new.counts
-        × ((block_view block, numbers_of state.new.numbering)
-        ≡ block_of (setting_of declared.now) MAX_DEPTH [] (numbers_of state.old.numbering) d)
-        × (scope_of state.new.labels.entries ≡ [])) }
+    ensures { IfOk result (SpellsBlock MAX_DEPTH declared.now (token.begin_array ∷ reader.old)
+        reader.new (at_transaction number state.old) state.new) }
 {
     state.counts.transaction = number;
     pull_block_begun(alloc, reader, MAX_DEPTH, declared, state)

@@ -26,7 +26,8 @@ use Rattle.batch.specs.Left.{left_by_transaction}
 use Rattle.batch.proofs.LeftNets.{left_is_net}
 
 -- a pending run is that of another state where both have the same record and outcome
-pub moved : (r s : one_thread.Run Taken) (made : PendingRun) → IsPendingOf r made → record_of s ≡ record_of r → outcome_of s ≡ outcome_of r
+pub moved : (r s : one_thread.Execution Taken) (made : PendingRun) → IsPendingOf r made → record_of s ≡ record_of r → outcome_of s
+    ≡ outcome_of r
     → IsPendingOf s made
 moved r s made is taken outcome =
     let nets_are : net (record_of r) (outcome_of r) ≡ net (record_of s) (outcome_of s) =

@@ -41,16 +41,17 @@ returns-in-EndObject-Given c =
     let target : IsMet next (target_asked setting o w) next = grind (arith, rules) in
     let placed : c.in_ok-object-2.object ≡ target_of setting o = grind (arith, rules) in
     let call = c.in-EndObject-Given.call in
-    let shown = plain_shown c.in_ok-object-2.object (target_of setting o) call template placed c.in-EndObject-Given.is-1 in (
-      op_step None None op,
-      operation_reads None None o w rest _ _ left new tokens given.1 (λ found. reads_no_members 0 found left new (ap read_key ended)),
-      λ places. operation_met setting scope None None o w rest places start next next refl counted target
+    let shown = plain_shown c.in_ok-object-2.object (target_of setting o) call template placed c.in-EndObject-Given.is-1 in record {
+      value = op_step None None op;
+      reads = operation_reads None None o w rest _ _ left new tokens given.1
+          (λ found. reads_no_members 0 found left new (ap read_key ended));
+      met = λ places. operation_met setting scope None None o w rest places start next next refl counted target
           (subst (λ v. IsMet next (arguments_asked setting.version scope v op) next) verb (given.2 o w next))
-          (no_reason_met setting.version next) (no_label_met setting.version scope next),
-      λ block. operation_spelled setting scope None None o w rest block numbers mid mid template GoesOn _ shown
-          (subst (λ v. (template, mid) ≡ template_of setting.version scope v numbers op) verb (given.3 o w)) refl,
-      sym (operation_scope setting scope None None o w rest),
-    )
+          (no_reason_met setting.version next) (no_label_met setting.version scope next);
+      spelled = λ block. operation_spelled setting scope None None o w rest block numbers mid mid template GoesOn _ shown
+          (subst (λ v. (template, mid) ≡ template_of setting.version scope v numbers op) verb (given.3 o w)) refl;
+      scope = sym (operation_scope setting scope None None o w rest);
+    }
 
 pub returns : goal.returns
 returns c =
@@ -85,15 +86,15 @@ returns c =
     let added : scope_of c.add_new_label.new.labels.entries ≡ with_label label (Reply c.in_ok-object-2.verb) scope = grind (arith, rules) in
     let shown : step_view c.in_ok-operation_step.field-0 ≡ operation_step (target_of setting o) template (is_some label) refusal =
     c.in_ok-operation_step.ensures ∙ rw (placed, has) refl in
-    let labels : IsMet last (label_asked setting.version scope [] label) last = grind (arith, rules) in (
-      op_step label abort op,
-      operation_reads label abort o w rest _ _ left new tokens given.1
+    let labels : IsMet last (label_asked setting.version scope [] label) last = grind (arith, rules) in record {
+      value = op_step label abort op;
+      reads = operation_reads label abort o w rest _ _ left new tokens given.1
           (λ found. subst (λ ts. ReadsMembers 0 found ts (with_abort abort (labelled label found)) new) (sym after_array)
-          (c.in_ok-rest.ensures.1 found)),
-      λ places. operation_met setting scope label abort o w rest places start next last c.in_ok-rest.ensures.0 counted target
-          (subst (λ v. IsMet next (arguments_asked setting.version scope v op) next) verb (given.2 o w next)) told.0 labels,
-      λ block. operation_spelled setting scope label abort o w rest block numbers mid after template refusal _ shown
+          (c.in_ok-rest.ensures.1 found));
+      met = λ places. operation_met setting scope label abort o w rest places start next last c.in_ok-rest.ensures.0 counted target
+          (subst (λ v. IsMet next (arguments_asked setting.version scope v op) next) verb (given.2 o w next)) told.0 labels;
+      spelled = λ block. operation_spelled setting scope label abort o w rest block numbers mid after template refusal _ shown
           (subst (λ v. (template, mid) ≡ template_of setting.version scope v numbers op) verb (given.3 o w))
-          told.1,
-      added ∙ ap (λ v. with_label label (Reply v) scope) verb ∙ sym (operation_scope setting scope label abort o w rest),
-    )
+          told.1;
+      scope = added ∙ ap (λ v. with_label label (Reply v) scope) verb ∙ sym (operation_scope setting scope label abort o w rest);
+    }

@@ -1,32 +1,23 @@
-use Rattle.std.proofs.Common.{◌≡◌, ℕ, List, ◌+◌, ◌*◌, length, map, option_map}
+use Rattle.std.proofs.Common.{◌≡◌, ℕ, List, ◌++◌, ◌+◌, ◌*◌, length, map, option_map}
 use Rattle.json.specs.Token.{Token}
-use Rattle.serde_json.specs.Data.{Data, Items, Members, no_members, put}
-use Rattle.batch.specs.Views.{block_view, handler_view, step_view, subaction_view}
-use Rattle.doc_tree.specs.Asked.{labels_of}
-use Rattle.doc_tokens.specs.Pulled.{IsAfter, ReadsItems, ReadsMembers, SubTail}
-use Rattle.doc_tree.specs.Scope.{AreUnseen, Extends, numbers_of, scope_of, setting_of}
-use Rattle.doc_tree.specs.Spelled.{block_of, children_spelled, members_of, steps_spelled}
+use Rattle.serde_json.specs.Data.{Data, Members, no_members, put}
+use Rattle.batch.specs.Views.{block_view, handler_view}
+use Rattle.doc_tokens.specs.Pulled.{IsAfter, ReadsMembers}
+use Rattle.doc_tokens.specs.PulledBlocks.{SpellsChildren, SpellsSteps, SubTail}
+use Rattle.doc_tree.specs.declared.state.ReaderState.{ReaderState}
+use Rattle.batch.specs.declared.tree.Step.{Step}
+use Rattle.batch.specs.declared.tree.Subaction.{Subaction}
+use Rattle.doc_tree.specs.Scope.{Scope, numbers_of, scope_of, setting_of}
+use Rattle.doc_tree.specs.Spelled.{block_of, members_of}
 use Rattle.doc_tree.proofs.ListLemmas.{in_front}
-use Rattle.doc_tree.specs.Places.{block_placed, children_placed, members_placed, seek, steps_placed}
+use Rattle.doc_tree.specs.Places.{block_placed, members_placed, seek}
 use Rattle.doc_tokens.proofs.pull_blocks.+blocks.Given as goal
 
--- what was read comes before any items that follow
+-- what was read comes before any steps that follow
 abbrev pub invariant-pull_steps-loop-steps : goal.invariant-pull_steps-loop-steps
-invariant-pull_steps-loop-steps l =
-    (before : Items → Items)
-    × ((ds : Items) (new : List Token) → ReadsItems (5 * l.levels + 4) l.reader ds new
-    → ReadsItems (5 * l.levels + 4) l.initial.reader (before ds) new)
-    × ((ds : Items) → seek l.initial.state.counts
-    (steps_placed (block_placed (setting_of l.declared) l.levels) (setting_of l.declared) (scope_of l.initial.state.labels.entries)
-    0 (before ds))
-    ≡ seek l.state.counts (steps_placed (block_placed (setting_of l.declared) l.levels) (setting_of l.declared)
-    (scope_of l.state.labels.entries) (length l.steps.items) ds))
-    × ((ds : Items) → steps_spelled (block_of (setting_of l.declared) l.levels) (setting_of l.declared)
-    (scope_of l.initial.state.labels.entries) (numbers_of l.initial.state.numbering) (before ds)
-    ≡ in_front (map step_view l.steps.items)
-    (steps_spelled (block_of (setting_of l.declared) l.levels) (setting_of l.declared) (scope_of l.state.labels.entries)
-    (numbers_of l.state.numbering) ds))
-    × Extends (scope_of l.initial.state.labels.entries) (scope_of l.state.labels.entries)
+invariant-pull_steps-loop-steps l = (new : List Token) (q : ReaderState) (rest : List Step)
+    → SpellsSteps (length l.steps.items) l.levels l.declared l.reader new l.state q rest
+    → SpellsSteps 0 l.levels l.declared l.initial.reader new l.initial.state q (l.steps.items ++ rest)
 
 abbrev pub decreases-pull_steps-loop-steps : goal.decreases-pull_steps-loop-steps
 decreases-pull_steps-loop-steps l = length l.reader
@@ -55,13 +46,9 @@ decreases-pull_block_begun l = 11 * l.levels
 -- what was read after the body so far, and the labels are as they were
 abbrev pub invariant-pull_sub_rest-loop-handler : goal.invariant-pull_sub_rest-loop-handler
 invariant-pull_sub_rest-loop-handler l =
-    SubTail (5 * l.levels + 1) l.declared.version (block_placed (setting_of l.declared) l.levels)
-    (block_of (setting_of l.declared) l.levels) (scope_of l.initial.state.labels.entries)
-    l.initial.reader l.initial.state.counts (numbers_of l.initial.state.numbering)
-    (option_map (λ list. map handler_view list.items) l.handlers) (option_map block_view l.handler)
-    (option_map (λ text. text.now) l.label)
-    l.reader l.state.counts (numbers_of l.state.numbering)
-    × (scope_of l.state.labels.entries ≡ scope_of l.initial.state.labels.entries)
+    SubTail l.levels l.declared (scope_of l.initial.state.labels.entries) l.initial.reader l.initial.state
+    (option_map (λ list. map handler_view list.items) l.handlers) (option_map block_view l.handler) (option_map (λ text. text.now) l.label)
+    l.reader l.state
 
 abbrev pub decreases-pull_sub_rest-loop-handler : goal.decreases-pull_sub_rest-loop-handler
 decreases-pull_sub_rest-loop-handler l = length l.reader
@@ -72,25 +59,12 @@ decreases-pull_parallel l = 11 * l.levels + 8
 abbrev pub decreases-pull_children : goal.decreases-pull_children
 decreases-pull_children l = 11 * l.levels + 7
 
--- what was read comes before any children that follow, where none of all their labels is seen before them
+-- what was read comes before any children that follow
 abbrev pub invariant-pull_children-loop-alloc : goal.invariant-pull_children-loop-alloc
-invariant-pull_children-loop-alloc l =
-    (before : Items → Items)
-    × ((ds : Items) (new : List Token) → ReadsItems (5 * l.levels + 2) l.reader ds new
-    → ReadsItems (5 * l.levels + 2) l.initial.reader (before ds) new)
-    × ((ds : Items) → AreUnseen (labels_of (scope_of l.earlier.entries) ds) (scope_of l.initial.state.labels.entries)
-    → seek l.initial.state.counts
-    (children_placed l.declared.version (block_placed (setting_of l.declared) l.levels) (scope_of l.initial.state.labels.entries)
-    (scope_of l.initial.earlier.entries) 0 (before ds))
-    ≡ seek l.state.counts (children_placed l.declared.version (block_placed (setting_of l.declared) l.levels)
-    (scope_of l.initial.state.labels.entries) (scope_of l.earlier.entries) (length l.children.items) ds))
-    × ((ds : Items) → children_spelled (block_of (setting_of l.declared) l.levels) (scope_of l.initial.state.labels.entries)
-    (numbers_of l.initial.state.numbering) (before ds)
-    ≡ in_front (map subaction_view l.children.items)
-    (children_spelled (block_of (setting_of l.declared) l.levels) (scope_of l.initial.state.labels.entries)
-    (numbers_of l.state.numbering) ds))
-    × ((ds : Items) → labels_of (scope_of l.initial.earlier.entries) (before ds) ≡ labels_of (scope_of l.earlier.entries) ds)
-    × (scope_of l.state.labels.entries ≡ scope_of l.initial.state.labels.entries)
+invariant-pull_children-loop-alloc l = (new : List Token) (after : Scope) (q : ReaderState) (rest : List Subaction)
+    → SpellsChildren (length l.children.items) l.levels l.declared l.reader new (scope_of l.earlier.entries) after l.state q rest
+    → SpellsChildren 0 l.levels l.declared l.initial.reader new (scope_of l.initial.earlier.entries) after l.initial.state q
+    (l.children.items ++ rest)
 
 abbrev pub decreases-pull_children-loop-alloc : goal.decreases-pull_children-loop-alloc
 decreases-pull_children-loop-alloc l = length l.reader

@@ -27,11 +27,11 @@ returns c =
     let met : IsMet counted (reason_asked setting.version Reason reason) next = grind (arith, rules) in
     let value : (c.in_ok-number.number, after) ≡ reason_of numbers reason = grind (arith, rules) in
     let same : scope_of c.read_reason.new.state.labels.entries ≡ scope = grind (arith, rules) in
-    let shown : step_view (Abort c.in_ok-number.number) ≡ tree.Abort c.in_ok-number.number = search (rules, the_lemmas) in (
-      abort_step reason,
-      done.0,
-      λ places. abort_met setting scope reason places start counted next done.1 one met,
-      λ block. ap (λ (step : tree.Step). (step, after)) shown
-          ∙ abort_spelled setting scope reason block numbers after c.in_ok-number.number value,
-      same ∙ sym (abort_scope setting scope reason),
-    )
+    let shown : step_view (Abort c.in_ok-number.number) ≡ tree.Abort c.in_ok-number.number = search (rules, the_lemmas) in record {
+      value = abort_step reason;
+      reads = done.0;
+      met = λ places. abort_met setting scope reason places start counted next done.1 one met;
+      spelled = λ block. ap (λ (step : tree.Step). (step, after)) shown
+          ∙ abort_spelled setting scope reason block numbers after c.in_ok-number.number value;
+      scope = same ∙ sym (abort_scope setting scope reason);
+    }
