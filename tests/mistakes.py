@@ -261,7 +261,7 @@ def try_mistake(program, number, document, path, words, mended):
 
 def rules():
     """The names of the rules that there are, each after what is wrong where it isn't kept."""
-    source = (ROOT / "crates" / "rules" / "src" / "rule.rt").read_text()
+    source = (ROOT / "crates" / "doc_rules" / "src" / "rule.rt").read_text()
     enums = {name: re.findall(r"^    (\w+)(?:\((?:OperandPlace, |u8, )?(\w+)\))?", body, re.MULTILINE)
              for name, body in re.findall(r"^pub enum (\w+) \{\n(.*?)^\}", source, re.MULTILINE | re.DOTALL)}
     return {"%s.%s" % (rule, one) if held in enums else rule
