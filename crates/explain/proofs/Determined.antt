@@ -6,7 +6,7 @@ use Rattle.objects.specs.Entries.{State, CommuteForward}
 use Rattle.meaning.specs.Trees.{Block}
 use Rattle.meaning.specs.Words.{Naming}
 use Rattle.meaning.proofs.Openings.{one_opening}
-use Rattle.explain.specs.Why.{Placed, IsFirstWithout, IsConflict, WhyFrom, IsLast, IsEnded, placed_nets, why_line}
+use Rattle.explain.specs.Why.{PlacedEntry, IsFirstWithout, IsConflict, WhyFrom, IsLast, IsEnded, placed_nets, why_line}
 use Rattle.explain.specs.Laws.{DeterminedLaw}
 
 unfoldable first_or : {A : Type 0} → A → List A → A
@@ -42,7 +42,7 @@ one_first P xs x y one other = same_first P x y one.before one.after other.befor
     one.without other.clear other.without
 
 module _ (names : Naming) (start : State) (batch : List Block) where
-  same_line : (b m round : ℕ) (late early late_too early_too : Placed) → IsConflict names start batch b m late early
+  same_line : (b m round : ℕ) (late early late_too early_too : PlacedEntry) → IsConflict names start batch b m late early
       → IsConflict names start batch b m late_too early_too
       → why_line names round late_too early_too ≡ why_line names round late early
   same_line b m round late early late_too early_too one other =

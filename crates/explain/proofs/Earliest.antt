@@ -19,7 +19,7 @@ use Rattle.batch.proofs.CanRun.{block_at_view}
 use Rattle.report.proofs.TextLemmas.{end_of-record_view}
 use Rattle.speculate.specs.Runs.{IsRunOf}
 use Rattle.speculate.specs.declared.speculated.Run.{Run}
-use Rattle.explain.specs.Why.{Placed, IsFirstWithout, has_ended, placed, placed_run, placed_nets}
+use Rattle.explain.specs.Why.{PlacedEntry, IsFirstWithout, has_ended, placed, placed_run, placed_nets}
 use Rattle.explain.proofs.Linked.{entries_in, left_in, end_of-shown, nets_entries}
 
 -- ---- the operations of a run
@@ -39,14 +39,14 @@ run_places names batch b i run block is lt read =
     ∙ ap (placed names (decimal (i + 1)) 1 (has_ended (outcome_of meant)) (block_at (blocks_of batch) i)) is.tree
 
 -- entries that each commute with all of a list
-pub all_commute : (ps : List Placed) (left : List Entry) → All (λ p. CommutesWith p.entry left) ps → AllCommute (entries_in ps) left
+pub all_commute : (ps : List PlacedEntry) (left : List Entry) → All (λ p. CommutesWith p.entry left) ps → AllCommute (entries_in ps) left
 all_commute [] left all = tt
 all_commute (p ∷ ps) left all = (
   All-head (λ p. CommutesWith p.entry left) p ps all,
   all_commute ps left (All-tail (λ p. CommutesWith p.entry left) p ps all),
 )
 
-pub commutes_with_all : (e : Entry) (ps : List Placed) → All (λ p. CommuteForward e p.entry) ps → CommutesWith e (entries_in ps)
+pub commutes_with_all : (e : Entry) (ps : List PlacedEntry) → All (λ p. CommuteForward e p.entry) ps → CommutesWith e (entries_in ps)
 commutes_with_all e [] all = tt
 commutes_with_all e (p ∷ ps) all = (
   All-head (λ p. CommuteForward e p.entry) p ps all,
@@ -71,7 +71,7 @@ module _ (names : Naming) (start : State) (batch : List Block) where
       ++ left_in (placed_run names start batch j b)) same
 
   -- what comes after the first of them
-  nets_split : (b i k count : ℕ) → k < count → (rest : List Placed) × (placed_nets names start batch b i count
+  nets_split : (b i k count : ℕ) → k < count → (rest : List PlacedEntry) × (placed_nets names start batch b i count
       ≡ placed_nets names start batch b i (suc k) ++ rest)
   unfolding placed_nets
   nets_split b i k zero lt = absurd (omega arith)
@@ -87,7 +87,7 @@ module _ (names : Naming) (start : State) (batch : List Block) where
             ∙ sym (append_assoc (left_in (placed_run names start batch i b)) (placed_nets names start batch b (suc i) (suc k)) later.0),
       )
 
-  module _ (P : Placed → Type 0) (b k : ℕ) (before : All P (placed_nets names start batch b b k)) where
+  module _ (P : PlacedEntry → Type 0) (b k : ℕ) (before : All P (placed_nets names start batch b b k)) where
     -- none is in the next run
     pub none_in_next : All P (left_in (placed_run names start batch (b + k) b)) → All P (placed_nets names start batch b b (k + 1))
     none_in_next here =
@@ -96,11 +96,11 @@ module _ (names : Naming) (start : State) (batch : List Block) where
         (All-same P _ _ (nets_more b b k) (All-append P _ _ before here))
 
     -- the first one is in the next run
-    pub first_in_next : (count : ℕ) (p : Placed) → k < count
+    pub first_in_next : (count : ℕ) (p : PlacedEntry) → k < count
         → IsFirstWithout P (left_in (placed_run names start batch (b + k) b)) p
         → IsFirstWithout P (placed_nets names start batch b b count) p
     first_in_next count p lt first =
-        let earlier : List Placed = placed_nets names start batch b b k in
+        let earlier : List PlacedEntry = placed_nets names start batch b b k in
         let rest = nets_split b b k count lt in
         record {
           before = earlier ++ first.before;
@@ -113,7 +113,7 @@ module _ (names : Naming) (start : State) (batch : List Block) where
           without = first.without;
         }
 
-  pub none_yet : (P : Placed → Type 0) (b : ℕ) → All P (placed_nets names start batch b b 0)
+  pub none_yet : (P : PlacedEntry → Type 0) (b : ℕ) → All P (placed_nets names start batch b b 0)
   unfolding placed_nets
   none_yet P b = All-nil P
 

@@ -13,8 +13,8 @@ use Rattle.batch.specs.declared.batch.Batch.{Batch}
 use Rattle.batch.specs.declared.tree.Block as declared_block
 use Rattle.speculate.specs.Runs.{IsRunOf}
 use Rattle.speculate.specs.declared.speculated.Run.{Run}
-use Rattle.explain.specs.Why.{Placed, IsFirstWithout, IsConflict, has_ended, placed, placed_run, placed_nets}
-use Rattle.explain.specs.Rounds.{IsRound, IsStopped}
+use Rattle.explain.specs.Why.{PlacedEntry, IsFirstWithout, IsConflict, has_ended, placed, placed_run, placed_nets}
+use Rattle.explain.specs.Rounds.{IsRoundAt, IsStopped}
 use Rattle.explain.specs.declared.round.Round.{Round}
 use Rattle.explain.proofs.Linked.{entries_in, run_entries}
 use Rattle.explain.proofs.Earliest.{all_commute, run_places}
@@ -30,8 +30,8 @@ stopped_places batch b i round run block stop same lt read =
     (subst (λ m. IsRunOf (alone (start_of batch) (blocks_of batch) m b) run) (sym same) stop.run_is) lt read
     ∙ ap (λ m. placed_run (names_of batch.names) (start_of batch) (blocks_of batch) m b) same
 
-module _ (batch : Batch) (b : ℕ) (round : Round) (run : Run) (is : IsRound batch b round)
-    (stop : IsStopped batch b (b + length round.passed.items) round run) (ps : List Placed)
+module _ (batch : Batch) (b : ℕ) (round : Round) (run : Run) (is : IsRoundAt batch b round)
+    (stop : IsStopped batch b (b + length round.passed.items) round run) (ps : List PlacedEntry)
     (here : ps
     ≡ placed_run (names_of batch.names) (start_of batch) (blocks_of batch) (b + length round.passed.items) b) where
   -- some operation of the run conflicts
@@ -50,7 +50,7 @@ module _ (batch : Batch) (b : ℕ) (round : Round) (run : Run) (is : IsRound bat
       fails (subst (CommutesWith late)
       (run_nets_law (start_of batch) (blocks_of batch) b (length round.passed.items) is.opens.all_keep ∙ sym is.nets_are) commutes)
 
-  pub conflict_is : (late early : Placed)
+  pub conflict_is : (late early : PlacedEntry)
       → IsFirstWithout (λ p. CommutesWith p.entry round.nets) ps late
       → IsFirstWithout (λ p. CommuteForward late.entry p.entry)
       (placed_nets (names_of batch.names) (start_of batch) (blocks_of batch) b b (length round.passed.items)) early

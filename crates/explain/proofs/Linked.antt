@@ -32,12 +32,12 @@ use Rattle.meaning.specs.OneThread.{act, go_on, go_on_children, one, one_step, o
 use Rattle.meaning.specs.Batch.{block_at, state_at, alone, net_of, run_nets}
 use Rattle.meaning.specs.Words.{Naming}
 use Rattle.meaning.specs.Texts.{part, branch_path, handler_path, handler_block, pick, reason_of}
-use Rattle.explain.specs.Why.{Placed, has_ended, placed, placed_step, placed_child, placed_children, placed_run, placed_nets}
+use Rattle.explain.specs.Why.{PlacedEntry, has_ended, placed, placed_step, placed_child, placed_children, placed_run, placed_nets}
 
-abbrev pub entries_in : List Placed → List Entry
+abbrev pub entries_in : List PlacedEntry → List Entry
 entries_in ps = map (λ p. p.entry) ps
 
-abbrev pub left_in : List Placed → List Placed
+abbrev pub left_in : List PlacedEntry → List PlacedEntry
 left_in ps = filter (λ p. p.left) ps
 
 abbrev kept_if : Bool → List Entry → List Entry
@@ -45,7 +45,7 @@ kept_if true es = es
 kept_if false es = []
 
 -- they are these entries, and those that are left are these others, or none
-record IsPlaced (stays : Bool) (ps : List Placed) (es ks : List Entry) : Type 0 where
+record IsPlaced (stays : Bool) (ps : List PlacedEntry) (es ks : List Entry) : Type 0 where
   all : entries_in ps ≡ es
   left : entries_in (left_in ps) ≡ kept_if stays ks
 
@@ -62,7 +62,7 @@ kept_both false ks ms = refl
 none : (stays : Bool) → IsPlaced stays [] [] []
 none stays = record { all = refl; left = kept_none stays }
 
-both : (stays : Bool) (ps qs : List Placed) (es fs ks ms : List Entry) → IsPlaced stays ps es ks → IsPlaced stays qs fs ms
+both : (stays : Bool) (ps qs : List PlacedEntry) (es fs ks ms : List Entry) → IsPlaced stays ps es ks → IsPlaced stays qs fs ms
     → IsPlaced stays (ps ++ qs) (es ++ fs) (ks ++ ms)
 both stays ps qs es fs ks ms first second = record {
   all = map-append (λ p. p.entry) ps qs ∙ ap (λ xs. xs ++ entries_in qs) first.all ∙ ap (λ xs. es ++ xs) second.all;
@@ -72,18 +72,19 @@ both stays ps qs es fs ks ms first second = record {
 }
 
 -- where nothing follows
-alone_placed : (stays : Bool) (ps : List Placed) (es ks : List Entry) → IsPlaced stays ps es ks → IsPlaced stays ps (es ++ []) (ks ++ [])
+alone_placed : (stays : Bool) (ps : List PlacedEntry) (es ks : List Entry) → IsPlaced stays ps es ks
+    → IsPlaced stays ps (es ++ []) (ks ++ [])
 alone_placed stays ps es ks first = record {
   all = first.all ∙ sym (append-nil es);
   left = first.left ∙ ap (kept_if stays) (sym (append-nil ks));
 }
 
 -- a body that ended, and one that is taken back
-ended_stays : (stays : Bool) (ps : List Placed) (es ks : List Entry) → IsPlaced (stays && true) ps es ks → IsPlaced stays ps es ks
+ended_stays : (stays : Bool) (ps : List PlacedEntry) (es ks : List Entry) → IsPlaced (stays && true) ps es ks → IsPlaced stays ps es ks
 ended_stays true ps es ks is = is
 ended_stays false ps es ks is = is
 
-taken_back : (stays : Bool) (ps : List Placed) (es ks : List Entry) → IsPlaced (stays && false) ps es ks → IsPlaced stays ps es []
+taken_back : (stays : Bool) (ps : List PlacedEntry) (es ks : List Entry) → IsPlaced (stays && false) ps es ks → IsPlaced stays ps es []
 taken_back true ps es ks is = record { all = is.all; left = is.left }
 taken_back false ps es ks is = record { all = is.all; left = is.left }
 
@@ -103,7 +104,7 @@ module _ (names : Naming) where
   StepPlaced path stays step run = IsPlaced stays (placed_step names path stays step (shown_step (record_of run)))
       (entries_of_step (record_of run)) (kept_of_step (record_of run))
 
-  abbrev placed_handler : List ℕ → Bool → Block → TakenHandler → List Placed
+  abbrev placed_handler : List ℕ → Bool → Block → TakenHandler → List PlacedEntry
   placed_handler path stays block taken.NoHandler = []
   placed_handler path stays block (taken.Handled handler outcome) = placed names path 1 stays block (shown handler outcome)
 

@@ -18,7 +18,7 @@ use Rattle.batch.specs.declared.record.Taken.{Taken}
 use Rattle.batch.proofs.ViewLemmas.{subaction_view-body}
 use Rattle.batch.proofs.CountLemmas.{left}
 use Rattle.report.proofs.TextLemmas.{end_of-record_view}
-use Rattle.explain.specs.Why.{Placed, has_ended, placed, placed_step, placed_child, placed_children}
+use Rattle.explain.specs.Why.{PlacedEntry, has_ended, placed, placed_step, placed_child, placed_children}
 
 module _ (names : Naming) (path : List ℕ) (stays : Bool) where
   -- no step, no operation
@@ -39,7 +39,7 @@ module _ (names : Naming) (path : List ℕ) (stays : Bool) where
   end_children_placed n (meant.Child body handlers labelled younger) = refl
 
   -- the operations of the steps from the i-th on, counted from 0
-  pub rest_placed : ℕ → List Step → List Taken → End → List Placed
+  pub rest_placed : ℕ → List Step → List Taken → End → List PlacedEntry
   rest_placed i steps taken outcome = placed names path (i + 1) stays (steps_view (drop i steps))
       (before_end (map taken_view (drop i taken)) (AtEnd outcome))
 
@@ -74,7 +74,7 @@ module _ (names : Naming) (path : List ℕ) (stays : Bool) where
       (drop_of_length-le taken le) ∙ end_placed (i + 1) (steps_view (drop i steps)) outcome
 
   -- the same for children
-  pub rest_children_placed : ℕ → List Subaction → List (Record × Option Record) → List Placed
+  pub rest_children_placed : ℕ → List Subaction → List (Record × Option Record) → List PlacedEntry
   rest_children_placed i children tried = placed_children names path (i + 1) stays (children_view (drop i children))
       (before_younger (map tried_view (drop i tried)) ShownChildren.NoChild)
 
@@ -120,7 +120,7 @@ after_more mid new these rest more all is made splits = ap (λ x. x ++ more) mad
 
 -- the operations of a subaction
 module _ (names : Naming) (path : List ℕ) (stays : Bool) (child : Subaction) (body : Record) where
-  abbrev pub body_placed : List Placed
+  abbrev pub body_placed : List PlacedEntry
   body_placed = placed names (path ++ codes ".b") 1 (stays && has_ended body.outcome) (block_view (out-Subaction child).body)
       (record_view body)
 

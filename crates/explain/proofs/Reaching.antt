@@ -12,7 +12,7 @@ use Rattle.batch.specs.declared.batch.Batch.{Batch}
 use Rattle.intentions.specs.Levels.{AllHaveRoom}
 use Rattle.speculate.specs.declared.speculated.Run.{Run}
 use Rattle.explain.specs.Why.{WhyFrom, IsLast, IsEnded, IsWhyText, why_line}
-use Rattle.explain.specs.Rounds.{HasReached, IsRound, IsStopped, IsStoppedBy, IsWritten}
+use Rattle.explain.specs.Rounds.{HasReached, IsRoundAt, IsStopped, IsStoppedBy, IsWritten}
 use Rattle.explain.specs.declared.round.Round.{Round}
 use Rattle.speculate.proofs.Room.{nets_have_room}
 
@@ -38,7 +38,7 @@ module _ (batch : Batch) (b number : ℕ) (state : State) (text : List ℕ) (at 
     largest = λ k within all. within;
   }))
 
-  module _ (round : Round) (is : IsRound batch b round) where
+  module _ (round : Round) (is : IsRoundAt batch b round) where
     -- what the round leaves can be performed
     pub legal : AreLegal state round.nets
     legal = subst (λ s. AreLegal s round.nets) (sym at.reached)

@@ -4,7 +4,7 @@ use Rattle.std.proofs.Common.{sym, ap, ◌∙◌, subst, append-nil, take-append
 use Rattle.std.specs.List.{All}
 use Rattle.std.proofs.lemmas.List.{take_more, take_all, map-append}
 use Rattle.std.proofs.lemmas.List.Elements.{All-nil, All-append, All-cons, All-same, filter-append}
-use Rattle.explain.specs.Why.{Placed, IsFirstWithout}
+use Rattle.explain.specs.Why.{PlacedEntry, IsFirstWithout}
 use Rattle.explain.specs.Places.{place_view, places_view}
 use Rattle.explain.specs.declared.places.PlacedOperation.{PlacedOperation}
 use Rattle.explain.proofs.Linked.{left_in}
@@ -27,18 +27,18 @@ more_view places i x lt is =
     ap places_view (take_more places i x lt ∙ ap (λ y. take i places ++ y ∷ []) (sym is))
     ∙ map-append place_view (take i places) (x ∷ [])
 
-abbrev if_left : Bool → Placed → List Placed
+abbrev if_left : Bool → PlacedEntry → List PlacedEntry
 if_left true p = p ∷ []
 if_left false p = []
 
-first_if : (stays : Bool) (p : Placed) (ps : List Placed) → cond stays (p ∷ ps) ps ≡ if_left stays p ++ ps
+first_if : (stays : Bool) (p : PlacedEntry) (ps : List PlacedEntry) → cond stays (p ∷ ps) ps ≡ if_left stays p ++ ps
 first_if true p ps = refl
 first_if false p ps = refl
 
-left_first : (p : Placed) (ps : List Placed) → left_in (p ∷ ps) ≡ if_left p.left p ++ left_in ps
+left_first : (p : PlacedEntry) (ps : List PlacedEntry) → left_in (p ∷ ps) ≡ if_left p.left p ++ left_in ps
 left_first p ps = first_if p.left p (left_in ps)
 
-module _ (P : Placed → Type 0) (places : List PlacedOperation) (i : ℕ) (x : PlacedOperation) (lt : i < length places)
+module _ (P : PlacedEntry → Type 0) (places : List PlacedOperation) (i : ℕ) (x : PlacedOperation) (lt : i < length places)
     (is : x ≡ get_or places i x) where
   pub first_here : All P (places_view (take i places)) → ¬ P (place_view x) → IsFirstWithout P (places_view places) (place_view x)
   first_here clear fails = record {
@@ -89,10 +89,11 @@ module _ (P : Placed → Type 0) (places : List PlacedOperation) (i : ℕ) (x : 
       → All P (left_in (places_view (take (i + 1) places)))
   later_not_left clear same = All-same P _ _ (left_more false same ∙ append-nil _) clear
 
-pub none_at_end : (P : Placed → Type 0) (places : List PlacedOperation) (i : ℕ) → length places ≤ i → All P (places_view (take i places))
+pub none_at_end : (P : PlacedEntry → Type 0) (places : List PlacedOperation) (i : ℕ) → length places ≤ i
+    → All P (places_view (take i places))
     → All P (places_view places)
 none_at_end P places i le clear = subst (λ ps. All P (places_view ps)) (take_all i places le) clear
 
-pub none_left_at_end : (P : Placed → Type 0) (places : List PlacedOperation) (i : ℕ) → length places ≤ i
+pub none_left_at_end : (P : PlacedEntry → Type 0) (places : List PlacedOperation) (i : ℕ) → length places ≤ i
     → All P (left_in (places_view (take i places))) → All P (left_in (places_view places))
 none_left_at_end P places i le clear = subst (λ ps. All P (left_in (places_view ps))) (take_all i places le) clear

@@ -10,7 +10,7 @@ use Rattle.batch.specs.Parts.{start_of, blocks_of}
 use Rattle.batch.specs.declared.batch.Batch.{Batch}
 use Rattle.speculate.specs.Runs.{IsRunOf}
 use Rattle.speculate.specs.declared.speculated.Run.{Run}
-use Rattle.explain.specs.Why.{Placed, IsFirstWithout, IsConflict, IsWhyText, WhyFrom, place_text, placed_run, placed_nets, why_line}
+use Rattle.explain.specs.Why.{PlacedEntry, IsFirstWithout, IsConflict, IsWhyText, WhyFrom, place_text, placed_run, placed_nets, why_line}
 use Rattle.explain.specs.declared.round.Round.{Round}
 
 -- the runs of the transactions from number b on, on the state after the first b
@@ -29,7 +29,7 @@ IsStoppedBy batch b m round None = m ≡ length (blocks_of batch)
 IsStoppedBy batch b m round (Some run) = IsStopped batch b m round run
 
 -- the round from opening b on
-pub record IsRound (batch : Batch) (b : ℕ) (round : Round) : Type 0 where
+pub record IsRoundAt (batch : Batch) (b : ℕ) (round : Round) : Type 0 where
   pub opens : IsNextOpening (start_of batch) (blocks_of batch) b (b + length round.passed.items)
   pub passed_are : AreRuns batch b round.passed.items
   pub nets_are : round.nets ≡ nets (start_of batch) (blocks_of batch) b (length round.passed.items)
@@ -37,7 +37,7 @@ pub record IsRound (batch : Batch) (b : ℕ) (round : Round) : Type 0 where
 
 -- the text goes on with the first operation that run i from opening b on leaves with which an entry doesn't commute forward
 pub record IsEarly (batch : Batch) (b i : ℕ) (late : Entry) (old new : List ℕ) : Type 0 where
-  pub early : Placed
+  pub early : PlacedEntry
   pub is : IsFirstWithout (λ p. CommuteForward late p.entry)
       (filter (λ p. p.left) (placed_run (names_of batch.names) (start_of batch) (blocks_of batch) i b)) early
   pub text : new ≡ old ++ place_text (names_of batch.names) early
@@ -55,15 +55,15 @@ HasEarly batch b i late old new false = IsNoneEarly batch b i late old new
 
 -- the text goes on with the earliest operation that count runs from opening b on leave with which an entry doesn't commute forward
 pub record IsEarliest (batch : Batch) (b count : ℕ) (late : Entry) (old new : List ℕ) : Type 0 where
-  pub early : Placed
+  pub early : PlacedEntry
   pub is : IsFirstWithout (λ p. CommuteForward late p.entry)
       (placed_nets (names_of batch.names) (start_of batch) (blocks_of batch) b b count) early
   pub text : new ≡ old ++ place_text (names_of batch.names) early
 
 -- the text goes on with the line of the round from opening b on, which ends before m
 pub record IsWritten (batch : Batch) (b m number : ℕ) (old new : List ℕ) : Type 0 where
-  pub late : Placed
-  pub early : Placed
+  pub late : PlacedEntry
+  pub early : PlacedEntry
   pub is : IsConflict (names_of batch.names) (start_of batch) (blocks_of batch) b m late early
   pub text : new ≡ old ++ why_line (names_of batch.names) number late early
 

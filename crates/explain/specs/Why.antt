@@ -16,7 +16,7 @@ use Rattle.meaning.specs.Words.{Naming, call_text, reply_text}
 use Rattle.meaning.specs.Texts.{line, part, branch_path, branch_of, handler_path, handler_block, reason_of}
 
 -- an operation of a run with the path of its step, and whether the run leaves it
-pub record Placed : Type 0 where
+pub record PlacedEntry : Type 0 where
   pub path : List ℕ
   pub entry : Entry
   pub left : Bool
@@ -27,13 +27,13 @@ has_ended (Aborted reason) = false
 
 abbrev mutual
   -- the operations of the steps of a block from the n-th on. Those of an aborted body are not left; none is where `left` is false
-  pub placed : Naming → List ℕ → ℕ → Bool → Block → Shown → List Placed
+  pub placed : Naming → List ℕ → ℕ → Bool → Block → Shown → List PlacedEntry
   placed names path n left (Steps step rest) (First done others) =
       placed_step names (part path n) left step done ++ placed names path (n + 1) left rest others
   placed names path n left NoStep (First done others) = []
   placed names path n left block (AtEnd outcome) = []
 
-  pub placed_step : Naming → List ℕ → Bool → Step → ShownStep → List Placed
+  pub placed_step : Naming → List ℕ → Bool → Step → ShownStep → List PlacedEntry
   placed_step names path left (Operation object call labelled) (Replied reply) =
       record { path = path; entry = record { object = object; call = call; reply = reply }; left = left } ∷ []
   placed_step names path left (Fill object template labelled refusal) (Filled call reply) =
@@ -44,7 +44,7 @@ abbrev mutual
   placed_step names path left (Parallel children) (InParallel done) = placed_children names path 1 left children done
   placed_step names path left step done = []
 
-  pub placed_child : Naming → List ℕ → Bool → Block → Handlers → ShownChild → List Placed
+  pub placed_child : Naming → List ℕ → Bool → Block → Handlers → ShownChild → List PlacedEntry
   placed_child names path left block handlers (Body body) =
       placed names (path ++ codes ".b") 1 (left && has_ended (end_of body)) block body
   placed_child names path left block handlers (BodyAndHandler body handler) =
@@ -53,7 +53,7 @@ abbrev mutual
       handler
 
   -- those of the children of a step from the n-th on
-  pub placed_children : Naming → List ℕ → ℕ → Bool → Children → ShownChildren → List Placed
+  pub placed_children : Naming → List ℕ → ℕ → Bool → Children → ShownChildren → List PlacedEntry
   placed_children names path n left (Children.Child body handlers labelled younger) (ShownChildren.Child done others) =
       placed_child names (part path n) left body handlers done ++ placed_children names path (n + 1) left younger others
   placed_children names path n left Children.NoChild (ShownChildren.Child done others) = []
@@ -67,29 +67,29 @@ pub record IsFirstWithout {A : Type 0} (P : A → Type 0) (xs : List A) (x : A) 
   pub clear : All P before
   pub without : ¬ P x
 
-abbrev pub place_text : Naming → Placed → List ℕ
+abbrev pub place_text : Naming → PlacedEntry → List ℕ
 place_text names p =
     p.path ++ codes " " ++ names.object p.entry.object ++ codes " " ++ call_text names p.entry.call ++ codes " = "
     ++ reply_text names p.entry.reply
 
-abbrev pub why_line : Naming → ℕ → Placed → Placed → List ℕ
+abbrev pub why_line : Naming → ℕ → PlacedEntry → PlacedEntry → List ℕ
 why_line names round late early =
     line (codes "why " ++ decimal round ++ codes " " ++ place_text names late ++ codes " after " ++ place_text names early)
 
 module _ (names : Naming) (start : State) (batch : List Block) where
   -- the operations of transaction i (from 0), run on the state after the first b
-  abbrev pub placed_run : ℕ → ℕ → List Placed
+  abbrev pub placed_run : ℕ → ℕ → List PlacedEntry
   placed_run i b =
       placed names (decimal (i + 1)) 1 (has_ended (outcome_of (alone start batch i b))) (block_at batch i)
       (shown_of (alone start batch i b))
 
   -- those that the runs of count transactions from number i on leave
-  unfoldable pub placed_nets : ℕ → ℕ → ℕ → List Placed
+  unfoldable pub placed_nets : ℕ → ℕ → ℕ → List PlacedEntry
   placed_nets b i zero = []
   placed_nets b i (suc count) = filter (λ p. p.left) (placed_run i b) ++ placed_nets b (suc i) count
 
   -- what ends the round from opening b before transaction m
-  pub record IsConflict (b m : ℕ) (late early : Placed) : Type 0 where
+  pub record IsConflict (b m : ℕ) (late early : PlacedEntry) : Type 0 where
     -- the first operation of its run that doesn't commute forward with all that the runs before it leave
     pub late_is : IsFirstWithout (λ p. CommutesWith p.entry (nets start batch b (m - b))) (placed_run m b) late
     -- and the earliest of these that it doesn't commute forward with
@@ -98,7 +98,7 @@ module _ (names : Naming) (start : State) (batch : List Block) where
   -- the lines of the rounds from opening b on, the first of which has this number
   pub data WhyFrom : ℕ → ℕ → List ℕ → Type 0 where
     IsLast : {b round : ℕ} → IsNextOpening start batch b (length batch) → WhyFrom b round []
-    IsEnded : {b m round : ℕ} {late early : Placed} {text : List ℕ} → IsNextOpening start batch b m → m < length batch
+    IsEnded : {b m round : ℕ} {late early : PlacedEntry} {text : List ℕ} → IsNextOpening start batch b m → m < length batch
         → IsConflict b m late early → WhyFrom m (round + 1) text → WhyFrom b round (why_line names round late early ++ text)
 
   -- the lines of all rounds

@@ -7,7 +7,7 @@ ghost use Rattle.batch.specs.Parts.{start_of, blocks_of};
 ghost use Rattle.speculate.specs.Runs.{IsRunOf};
 ghost use Rattle.explain.specs.Why.{IsWhyText, place_text};
 ghost use Rattle.explain.specs.Places.{place_view};
-ghost use Rattle.explain.specs.Rounds.{AreRuns, HasReached, HasPassed, IsRound, IsStopped, HasEarly, IsEarliest, IsWritten};
+ghost use Rattle.explain.specs.Rounds.{AreRuns, HasReached, HasPassed, IsRoundAt, IsStopped, HasEarly, IsEarliest, IsWritten};
 
 use crate::places::{PlacedOperation, places_of};
 use crate::round::{Round, round_from};
@@ -90,7 +90,7 @@ fn pass_round(
     objects: &mut Objects,
 ) -> Result<bool, NoMemory>
     requires reached { HasReached at.batch.now at.opened number objects.old (string_bytes out.old) }
-    requires round { IsRound at.batch.now at.opened round.now }
+    requires round { IsRoundAt at.batch.now at.opened round.now }
     ensures { IfOk result (HasPassed at.entry.batch.now at.entry.opened number round.now
         objects.new (string_bytes out.new)) }
 {
@@ -111,7 +111,7 @@ fn write_round(
     round: &Round,
     stopped: &Run,
 ) -> Result<(), NoMemory>
-    requires round { IsRound at.batch.now at.opened round.now }
+    requires round { IsRoundAt at.batch.now at.opened round.now }
     requires stopped { IsStopped at.batch.now at.opened
         (at.opened + length round.now.passed.items) round.now stopped.now }
     ensures { OnOk result (IsWritten at.entry.batch.now at.entry.opened

@@ -4,7 +4,7 @@ ghost use Rattle.std.specs.Fmt.{decimal};
 ghost use Rattle.batch.specs.Names.{names_of};
 ghost use Rattle.batch.specs.Views.{block_view, record_view, step_view, taken_view, subaction_view, tried_view, children_view, all_tried_view};
 ghost use Rattle.explain.specs.Why.{has_ended, placed, placed_step, placed_child, placed_children};
-ghost use Rattle.explain.specs.Places.{places_view, is_left, AreAdded};
+ghost use Rattle.explain.specs.Places.{places_view, is_left, ArePlacedAfter};
 
 use batch::{Block, Names, Record, Step, Subaction, Taken};
 use meaning::End;
@@ -102,7 +102,7 @@ fn place_block(
     block: &Block,
     done: &Record,
 ) -> Result<(), NoMemory>
-    ensures { OnOk result (AreAdded places.old.items places.new.items
+    ensures { OnOk result (ArePlacedAfter places.old.items places.new.items
         (placed (names_of spot.entry.names.now) spot.entry.path.now 1 (is_left spot.entry.fate)
         (block_view block.now) (record_view done.now))) }
 {
@@ -129,7 +129,7 @@ fn place_step(
     step: &Step,
     taken: &Taken,
 ) -> Result<(), NoMemory>
-    ensures { OnOk result (AreAdded places.old.items places.new.items
+    ensures { OnOk result (ArePlacedAfter places.old.items places.new.items
         (placed_step (names_of spot.entry.names.now) spot.entry.path.now (is_left spot.entry.fate)
         (step_view step.now) (taken_view taken.now))) }
 {
@@ -177,7 +177,7 @@ fn place_child(
     handler: Option<&Record>,
 ) -> Result<(), NoMemory>
     ensures { OnOk result (let child = subaction_view child.now in
-        AreAdded places.old.items places.new.items
+        ArePlacedAfter places.old.items places.new.items
         (placed_child (names_of spot.entry.names.now) spot.entry.path.now (is_left spot.entry.fate)
         child.body child.handlers (tried_view (body.now, option_copied handler.entry)))) }
 {
@@ -211,7 +211,7 @@ fn place_children(
     children: &[Subaction],
     all_tried: &[(Record, Option<Record>)],
 ) -> Result<(), NoMemory>
-    ensures { OnOk result (AreAdded places.old.items places.new.items
+    ensures { OnOk result (ArePlacedAfter places.old.items places.new.items
         (placed_children (names_of spot.entry.names.now) spot.entry.path.now 1
         (is_left spot.entry.fate) (children_view children.now) (all_tried_view all_tried.now))) }
 {
@@ -239,7 +239,7 @@ fn place_operation(
     call: &Call,
     reply: &Reply,
 ) -> Result<(), NoMemory>
-    ensures { OnOk result (AreAdded places.old.items places.new.items (record {
+    ensures { OnOk result (ArePlacedAfter places.old.items places.new.items (record {
       path = spot.entry.path.now;
       entry = record { object = object; call = call.now; reply = reply.now };
       left = is_left spot.entry.fate;

@@ -2,7 +2,7 @@
 ghost use Rattle.std.specs.Prelude.{◌≡◌, ◌<◌, IfOk, length};
 ghost use Rattle.meaning.specs.Batch.{state_at};
 ghost use Rattle.batch.specs.Parts.{start_of, blocks_of};
-ghost use Rattle.explain.specs.Rounds.{IsRound};
+ghost use Rattle.explain.specs.Rounds.{IsRoundAt};
 
 use batch::Batch;
 use committed::{Committed, mark_all};
@@ -33,7 +33,7 @@ pub(crate) fn round_from<T: Threads + Sync>(
 ) -> Result<Round, NoMemory>
     requires within { opened < length (blocks_of batch.now) }
     requires reached { objects.now ≡ state_at (start_of batch.now) (blocks_of batch.now) opened }
-    ensures { IfOk result (IsRound batch.now opened) }
+    ensures { IfOk result (IsRoundAt batch.now opened) }
 {
     let mut passed = Vec::new(alloc);
     let mut nets = Committed::hashed_by(alloc, batch.hashing);

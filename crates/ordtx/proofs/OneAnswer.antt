@@ -23,7 +23,7 @@ use Rattle.lang.specs.Reading.{Document, reading}
 use Rattle.faults.specs.declared.fault.Fault.{Fault}
 use Rattle.doc_rules.specs.Limits.{limits_of}
 use Rattle.ordtx.specs.Answers.{IsReportOf, IsAuditOf, IsPlainReportOf, IsCheckOf, IsFaultOf, IsCarriedOf, IsUnfitOf, IsCarryFaultOf}
-use Rattle.ordtx.specs.Answers.{end_of, unfit_wrong, IsShownOf, IsWhyOf, IsExplainedOf, Refusal, of_first, of_next, of_object, AreRead}
+use Rattle.ordtx.specs.Answers.{end_of, unfit_wrong, IsShownOf, IsWhyOf, IsExplainedOf, Refusal, of_first, of_next, of_object, AreBothRead}
 use Rattle.ordtx.specs.Answers.{IsCarriedIntoOf, IsCarryIntoFaultOf, IsNextFaultOf, IsTooLongInto, IsUnfitInto, name_at}
 use Rattle.ordtx.specs.Answers.{wrong_start}
 use Rattle.ordtx.specs.Laws.{OneTextLaw, OneFaultLaw, FaultlessLaw}
@@ -171,10 +171,10 @@ module _ (first next : List ℕ) where
   abbrev Pair : Type 0
   Pair = Document × Document
 
-  abbrev pair_of : AreRead first next → Pair
+  abbrev pair_of : AreBothRead first next → Pair
   pair_of both = (both.document, both.next_document)
 
-  both_alike : (a b : AreRead first next) → pair_of a ≡ pair_of b
+  both_alike : (a b : AreBothRead first next) → pair_of a ≡ pair_of b
   both_alike a b =
       ap₂ (λ (d e : Document). (d, e)) (documents_alike (reading first) a.document b.document a.reads b.reads)
       (documents_alike (reading next) a.next_document b.next_document a.next_reads b.next_reads)
@@ -197,7 +197,7 @@ module _ (first next : List ℕ) where
   pub one_into : (text other : List ℕ) → IsCarriedIntoOf first next text → IsCarriedIntoOf first next other → text ≡ other
   one_into text other a b = a.is ∙ ap text_at (both_alike a.both b.both) ∙ sym b.is
 
-  unfit_and_fits : (fault : Fault) (name : List ℕ) → IsUnfitInto first next fault name → (both : AreRead first next)
+  unfit_and_fits : (fault : Fault) (name : List ℕ) → IsUnfitInto first next fault name → (both : AreBothRead first next)
       → wrong_at (pair_of both) ≡ None → ⊥
   unfit_and_fits fault name a both fits =
       none_or_some _ (a.wrong, a.place) (ap wrong_at (both_alike a.both both) ∙ fits) a.first_wrong

@@ -152,30 +152,30 @@ abbrev pub name_at : List StartOf → ℕ → List ℕ
 name_at starts place = unwrap_or (option_map name_of (slice_get starts place)) []
 
 -- Two documents are spelled, the first by these bytes and the next by those.
-pub record AreRead (first next : List ℕ) : Type 0 where
+pub record AreBothRead (first next : List ℕ) : Type 0 where
   pub document : Document
   pub reads : reading first ≡ Ok document
   pub next_document : Document
   pub next_reads : reading next ≡ Ok next_document
 
-abbrev pub starts_of : {first next : List ℕ} → AreRead first next → List StartOf
+abbrev pub starts_of : {first next : List ℕ} → AreBothRead first next → List StartOf
 starts_of both = starts_into both.document both.next_document
 
 -- the version of the next document with these starts
-abbrev pub version_of : {first next : List ℕ} → AreRead first next → ℕ
+abbrev pub version_of : {first next : List ℕ} → AreBothRead first next → ℕ
 version_of both = version_into both.document both.next_document
 
 -- what is wrong with its starts
-abbrev pub wrong_of : {first next : List ℕ} → AreRead first next → Option (Wrong × ℕ)
+abbrev pub wrong_of : {first next : List ℕ} → AreBothRead first next → Option (Wrong × ℕ)
 wrong_of both = wrong_start (version_of both) both.next_document.start (starts_of both)
 
-abbrev pub text_into : {first next : List ℕ} → AreRead first next → List ℕ
+abbrev pub text_into : {first next : List ℕ} → AreBothRead first next → List ℕ
 text_into {first} {next} both = joined_text (version_of both) (starts_of both) next
 
 -- The first document's objects end as they may start the next document, and the text is the next document with these starts and
 -- its own transactions.
 pub record IsCarriedIntoOf (first next text : List ℕ) : Type 0 where
-  pub both : AreRead first next
+  pub both : AreBothRead first next
   pub fits : wrong_of both ≡ None
   pub is : text ≡ text_into both
   pub short : length text ≤ (limits_of (version_of both)).bytes
@@ -183,14 +183,14 @@ pub record IsCarriedIntoOf (first next text : List ℕ) : Type 0 where
 
 -- The text would be longer than a document may be.
 pub record IsTooLongInto (first next : List ℕ) (fault : Fault) : Type 0 where
-  pub both : AreRead first next
+  pub both : AreBothRead first next
   pub fits : wrong_of both ≡ None
   pub long : (limits_of (version_of both)).bytes < length (text_into both)
   pub is : fault ≡ wrong_outside wrong.TooMany
 
 -- An object can't start the next document so. The fault is that of the first such object, and the name is its name.
 pub record IsUnfitInto (first next : List ℕ) (fault : Fault) (name : List ℕ) : Type 0 where
-  pub both : AreRead first next
+  pub both : AreBothRead first next
   pub wrong : Wrong
   pub place : ℕ
   pub first_wrong : wrong_of both ≡ Some (wrong, place)
