@@ -54,7 +54,11 @@ impl Model for Committed {
     ghost use Rattle.committed.specs.Index.{IsIndexOf, IsAllListed};
     ghost use Rattle.committed.specs.Filter.{IsFilterOf};
 
-    ghost invariant = { λ committed. record { index : IsIndexOf committed.entries.items committed.index; all : IsAllListed committed.entries.items committed.index; filter : IsFilterOf committed.entries.items committed.filter } };
+    ghost invariant = { λ committed. record {
+      index : IsIndexOf committed.entries.items committed.index;
+      all : IsAllListed committed.entries.items committed.index;
+      filter : IsFilterOf committed.entries.items committed.filter;
+    } };
 }
 
 impl Committed {
@@ -212,7 +216,8 @@ impl Committed {
     fn commutes_with_met(&self, entry: &Entry, mark: &Mark, met: u16, upto: usize) -> bool
         requires mark { mark.now ≡ mark_of entry.now }
         requires within { upto ≤ length self.now }
-        requires met { (k : ℕ) → k < upto → Meets met entry.now (slice_index_or self.now k entry.now) }
+        requires met { (k : ℕ) → k < upto
+            → Meets met entry.now (slice_index_or self.now k entry.now) }
         ensures { IsTrue result ↔ CommutesWith entry.now (take upto self.now) }
     {
         let mut rest = met;
@@ -249,7 +254,8 @@ fn put_all(entries: &mut Vec<Entry>, filter: &mut Filter, index: &mut Index, mor
 /// Whether the entry commutes forward with each entry from the place `since` on and before `upto`.
 fn commutes_past(entry: &Entry, entries: &[Entry], since: usize, upto: usize) -> bool
     requires { upto ≤ length entries.now }
-    ensures { IsTrue result ↔ ((k : ℕ) → since ≤ k → k < upto → CommuteForward entry.now (slice_index_or entries.now k entry.now)) }
+    ensures { IsTrue result ↔ ((k : ℕ) → since ≤ k → k < upto
+        → CommuteForward entry.now (slice_index_or entries.now k entry.now)) }
 {
     let mut place = since;
     while place < upto {

@@ -111,7 +111,8 @@ impl Filter {
     /// The set of its object has the classes of all entries about the object, so it is looked at
     /// first.
     pub fn met(&self, mark: &Mark) -> u16
-        ensures { (entry other : OneEntry) → mark.now ≡ mark_of entry → IsMarked self.now other → Meets result entry other }
+        ensures { (entry other : OneEntry) → mark.now ≡ mark_of entry → IsMarked self.now other
+            → Meets result entry other }
     {
         let met = self.set(mark.of_object) & mark.conflicts;
         let by_item = Class::by_item();

@@ -31,7 +31,8 @@ impl Span {
 
     /// Whether one of so many objects, from `first` on, is in the span.
     pub fn meets(self, first: usize, count: usize) -> bool
-        ensures { ¬ IsTrue result → (object : ℕ) → IsIn self object → (object < first) ⊎ (first + count ≤ object) }
+        ensures { ¬ IsTrue result → (object : ℕ) → IsIn self object
+            → (object < first) ⊎ (first + count ≤ object) }
     {
         first <= self.last as usize && (self.first as usize).saturating_sub(first) < count
     }

@@ -69,7 +69,8 @@ pub fn summarize(
     summary: &mut Vec<MarkedEntry>,
 ) -> Result<Span, NoMemory>
     ensures summary { OnOk result (IsSummary (entries_of summary.new.items) entries.now) }
-    ensures few { OnOk result (length entries.now ≤ FEW_ENTRIES → entries_of summary.new.items ≡ entries.now) }
+    ensures few { OnOk result (length entries.now ≤ FEW_ENTRIES
+        → entries_of summary.new.items ≡ entries.now) }
     ensures span { IfOk result (λ span. AreIn span entries.now) }
 {
     if entries.len() <= FEW_ENTRIES {
@@ -139,7 +140,9 @@ impl Table {
     /// at the places of its topic are. Where the earlier of these is as strict with it as with the
     /// later, it takes the place of the later.
     fn add(&mut self, entry: &Entry) -> Result<(), NoMemory>
-        ensures { OnOk result ((entries : List OneEntry) → IsSummary (entries_of self.old.summary.items) entries → IsSummary (entries_of self.new.summary.items) (entries ++ entry.now ∷ [])) }
+        ensures { OnOk result ((entries : List OneEntry)
+            → IsSummary (entries_of self.old.summary.items) entries
+            → IsSummary (entries_of self.new.summary.items) (entries ++ entry.now ∷ [])) }
     {
         let strength = Strength::of(entry);
         if self.covers(&strength) {
@@ -233,7 +236,8 @@ impl Table {
     /// The entry at this place of the summary.
     fn measured(&self, place: usize) -> Measured<'_>
         requires { place < length self.now.summary.items }
-        ensures { (other : OneEntry) → get_or (entries_of self.now.summary.items) place other ≡ result.entry.now }
+        ensures { (other : OneEntry)
+            → get_or (entries_of self.now.summary.items) place other ≡ result.entry.now }
     {
         Measured {
             entry: &self.summary[place].entry,

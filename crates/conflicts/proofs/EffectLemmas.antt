@@ -2,24 +2,12 @@
 use Rattle.std.proofs.Common.{◌≡◌, ◌&&◌, ℕ, Bool, true, false, nat_eq, refl, sym, ap, ◌∙◌, not, Option, Some, None}
 use Rattle.std.proofs.lemmas.Bool.{eqb-true, and_parts, false≢true, eq-eqb}
 use Rattle.std.specs.Prelude.{if◌then◌else◌}
-use Rattle.atoms.specs.Account.{account_effect, account_effects_commute}
-use Rattle.atoms.specs.Counter.{counter_effect, counter_effects_commute}
-use Rattle.atoms.specs.ItemSet.{set_effect, set_effects_commute}
-use Rattle.atoms.specs.Queue.{queue_effect, queue_effects_commute}
-use Rattle.atoms.specs.Directory.{directory_effect, key_effects_commute}
-use Rattle.atoms.specs.MaxRegister.{max_effect, max_effects_commute}
-use Rattle.atoms.specs.declared.account.AccountCall.{AccountCall}
-use Rattle.atoms.specs.declared.account.AccountReply.{AccountReply}
-use Rattle.atoms.specs.declared.counter.CounterCall.{CounterCall}
-use Rattle.atoms.specs.declared.counter.CounterReply.{CounterReply}
-use Rattle.atoms.specs.declared.item_set.SetCall.{SetCall}
-use Rattle.atoms.specs.declared.item_set.SetReply.{SetReply}
-use Rattle.atoms.specs.declared.queue.QueueCall.{QueueCall}
-use Rattle.atoms.specs.declared.queue.QueueReply.{QueueReply}
-use Rattle.atoms.specs.declared.directory.DirectoryCall.{DirectoryCall}
-use Rattle.atoms.specs.declared.directory.DirectoryReply.{DirectoryReply}
-use Rattle.atoms.specs.declared.max_register.MaxCall.{MaxCall}
-use Rattle.atoms.specs.declared.max_register.MaxReply.{MaxReply}
+use Rattle.atoms.specs.Account.{account_effects_commute}
+use Rattle.atoms.specs.Counter.{counter_effects_commute}
+use Rattle.atoms.specs.ItemSet.{set_effects_commute}
+use Rattle.atoms.specs.Queue.{queue_effects_commute}
+use Rattle.atoms.specs.Directory.{key_effects_commute}
+use Rattle.atoms.specs.MaxRegister.{max_effects_commute}
 use Rattle.atoms.proofs.AccountLemmas.{same_account_call, same_account_reply}
 use Rattle.atoms.proofs.CounterLemmas.{same_counter_call, same_counter_reply}
 use Rattle.atoms.proofs.ItemSetLemmas.{same_set_call, same_set_reply}
@@ -39,7 +27,7 @@ use Rattle.atoms.specs.declared.directory.KeyEffect.{KeyEffect}
 use Rattle.atoms.specs.declared.directory.KeyEffect.TheVariants as key
 use Rattle.atoms.specs.declared.max_register.MaxEffect.{MaxEffect}
 use Rattle.atoms.specs.declared.max_register.MaxEffect.TheVariants as max
-use Rattle.objects.specs.Tables.{operations_commute}
+use Rattle.objects.specs.Tables.{Effect, OfAccount, OfCounter, OfSet, OfQueue, OfDirectory, OfMax, effect_of, effects_commute}
 use Rattle.objects.specs.declared.call.Call.{Call}
 use Rattle.objects.specs.declared.call.Call.TheVariants as call
 use Rattle.objects.specs.contracts.call.CallPartialEq.TheImpl as call_eq
@@ -50,8 +38,7 @@ use Rattle.objects.specs.declared.entry.Entry.{Entry}
 use Rattle.objects.specs.contracts.entry.EntryPartialEq.TheImpl as entry_eq
 use Rattle.objects.specs.Entries.{CommuteForward}
 use Rattle.objects.proofs.CommuteLemmas.{entries_exact}
-use Rattle.conflicts.specs.Effects.{Effect, OfAccount, OfCounter, OfSet, OfQueue, OfDirectory, OfMax, Mixed}
-use Rattle.conflicts.specs.Effects.{effect_of, effects_commute, effect_class, account_class, counter_class, set_class, queue_class}
+use Rattle.conflicts.specs.Effects.{effect_class, account_class, counter_class, set_class, queue_class}
 use Rattle.conflicts.specs.Effects.{key_class, max_class, effect_item, set_item, taken_item}
 use Rattle.conflicts.specs.declared.classes.Class.{Class}
 use Rattle.conflicts.specs.Classes.{class_of, always_commute, is_by_item}
@@ -91,85 +78,15 @@ same_entry p q h =
     ∙ ap (λ (c : Call). let made : Entry = record { object = q.object; call = c; reply = p.reply } in made) call
     ∙ ap (λ (r : Reply). let made : Entry = record { object = q.object; call = q.call; reply = r } in made) reply
 
--- ---- operations commute as their effects do
-
--- a call and a reply of two kinds commute with all
-mixed_before : (c : Call) (r : Reply) (d : Call) (s : Reply) → effect_of c r ≡ Mixed → operations_commute c r d s ≡ true
-mixed_before (call.Account c) (reply.Account r) (call.Account d) (reply.Account s) mixed = absurd cc
-mixed_before (call.Counter c) (reply.Counter r) (call.Counter d) (reply.Counter s) mixed = absurd cc
-mixed_before (call.Set c) (reply.Set r) (call.Set d) (reply.Set s) mixed = absurd cc
-mixed_before (call.Queue c) (reply.Queue r) (call.Queue d) (reply.Queue s) mixed = absurd cc
-mixed_before (call.Directory c) (reply.Directory r) (call.Directory d) (reply.Directory s) mixed = absurd cc
-mixed_before (call.Max c) (reply.Max r) (call.Max d) (reply.Max s) mixed = absurd cc
-mixed_before c r d s mixed = refl
-
--- all commute with them
-mixed_after : (c : Call) (r : Reply) (d : Call) (s : Reply) → effect_of d s ≡ Mixed → operations_commute c r d s ≡ true
-mixed_after (call.Account c) (reply.Account r) (call.Account d) (reply.Account s) mixed = absurd cc
-mixed_after (call.Counter c) (reply.Counter r) (call.Counter d) (reply.Counter s) mixed = absurd cc
-mixed_after (call.Set c) (reply.Set r) (call.Set d) (reply.Set s) mixed = absurd cc
-mixed_after (call.Queue c) (reply.Queue r) (call.Queue d) (reply.Queue s) mixed = absurd cc
-mixed_after (call.Directory c) (reply.Directory r) (call.Directory d) (reply.Directory s) mixed = absurd cc
-mixed_after (call.Max c) (reply.Max r) (call.Max d) (reply.Max s) mixed = absurd cc
-mixed_after c r d s mixed = refl
-
--- what holds of the operations of each kind, and of those of none, holds of all
-by_kind : (P : Call → Reply → Effect → Type 0)
-    → ((c : AccountCall) (r : AccountReply) → P (call.Account c) (reply.Account r) (OfAccount (account_effect (c, r))))
-    → ((c : CounterCall) (r : CounterReply) → P (call.Counter c) (reply.Counter r) (OfCounter (counter_effect (c, r))))
-    → ((c : SetCall) (r : SetReply) → P (call.Set c) (reply.Set r) (OfSet (set_effect (c, r))))
-    → ((c : QueueCall) (r : QueueReply) → P (call.Queue c) (reply.Queue r) (OfQueue (queue_effect (c, r))))
-    → ((c : DirectoryCall) (r : DirectoryReply) → P (call.Directory c) (reply.Directory r) (OfDirectory (directory_effect (c, r))))
-    → ((c : MaxCall) (r : MaxReply) → P (call.Max c) (reply.Max r) (OfMax (max_effect (c, r))))
-    → ((c : Call) (r : Reply) → effect_of c r ≡ Mixed → P c r Mixed)
-    → (c : Call) (r : Reply) → P c r (effect_of c r)
-by_kind P a b c d e f mixed (call.Account k) (reply.Account u) = a k u
-by_kind P a b c d e f mixed (call.Counter k) (reply.Counter u) = b k u
-by_kind P a b c d e f mixed (call.Set k) (reply.Set u) = c k u
-by_kind P a b c d e f mixed (call.Queue k) (reply.Queue u) = d k u
-by_kind P a b c d e f mixed (call.Directory k) (reply.Directory u) = e k u
-by_kind P a b c d e f mixed (call.Max k) (reply.Max u) = f k u
-by_kind P a b c d e f mixed k u = mixed k u refl
-
--- two operations commute where an effect of the one and one of the other do, and only there
-abbrev Agrees : Call → Reply → Effect → Call → Reply → Effect → Type 0
-Agrees c r e d s f = operations_commute c r d s ≡ effects_commute e f
-
--- their own effects do
-told : (c : Call) (r : Reply) (d : Call) (s : Reply) → Agrees c r (effect_of c r) d s (effect_of d s)
-told c r = by_kind (λ c r e. (d : Call) (s : Reply) → Agrees c r e d s (effect_of d s))
-    (λ c r. by_kind (Agrees (call.Account c) (reply.Account r) (OfAccount (account_effect (c, r))))
-    (λ d s. refl) (λ d s. refl) (λ d s. refl) (λ d s. refl) (λ d s. refl) (λ d s. refl)
-    (mixed_after (call.Account c) (reply.Account r)))
-    (λ c r. by_kind (Agrees (call.Counter c) (reply.Counter r) (OfCounter (counter_effect (c, r))))
-    (λ d s. refl) (λ d s. refl) (λ d s. refl) (λ d s. refl) (λ d s. refl) (λ d s. refl)
-    (mixed_after (call.Counter c) (reply.Counter r)))
-    (λ c r. by_kind (Agrees (call.Set c) (reply.Set r) (OfSet (set_effect (c, r))))
-    (λ d s. refl) (λ d s. refl) (λ d s. refl) (λ d s. refl) (λ d s. refl) (λ d s. refl)
-    (mixed_after (call.Set c) (reply.Set r)))
-    (λ c r. by_kind (Agrees (call.Queue c) (reply.Queue r) (OfQueue (queue_effect (c, r))))
-    (λ d s. refl) (λ d s. refl) (λ d s. refl) (λ d s. refl) (λ d s. refl) (λ d s. refl)
-    (mixed_after (call.Queue c) (reply.Queue r)))
-    (λ c r. by_kind (Agrees (call.Directory c) (reply.Directory r) (OfDirectory (directory_effect (c, r))))
-    (λ d s. refl) (λ d s. refl) (λ d s. refl) (λ d s. refl) (λ d s. refl) (λ d s. refl)
-    (mixed_after (call.Directory c) (reply.Directory r)))
-    (λ c r. by_kind (Agrees (call.Max c) (reply.Max r) (OfMax (max_effect (c, r))))
-    (λ d s. refl) (λ d s. refl) (λ d s. refl) (λ d s. refl) (λ d s. refl) (λ d s. refl)
-    (mixed_after (call.Max c) (reply.Max r)))
-    (λ c r mixed d s. mixed_before c r d s mixed) c r
+-- ---- entries commute as their effects do
 
 -- the effect of an entry
 abbrev pub effect_in : Entry → Effect
 effect_in e = effect_of e.call e.reply
 
--- the table of two entries, by their effects
-by_effects : (p q : Entry) → (if nat_eq p.object q.object then operations_commute p.call p.reply q.call q.reply else true)
-    ≡ (if nat_eq p.object q.object then effects_commute (effect_in p) (effect_in q) else true)
-by_effects p q = ap (λ b. if nat_eq p.object q.object then b else true) (told p.call p.reply q.call q.reply)
-
 -- entries whose effects commute where they are on one object
 pub by_table : (p q : Entry) → (nat_eq p.object q.object ≡ true → effects_commute (effect_in p) (effect_in q) ≡ true) → CommuteForward p q
-by_table p q h = (entries_exact p q).0 (by_effects p q ∙ at_object (nat_eq p.object q.object) refl)
+by_table p q h = (entries_exact p q).0 (at_object (nat_eq p.object q.object) refl)
   where
     at_object : (b : Bool) → nat_eq p.object q.object ≡ b → (if b then effects_commute (effect_in p) (effect_in q) else true) ≡ true
     at_object true e = h e
@@ -178,7 +95,7 @@ by_table p q h = (entries_exact p q).0 (by_effects p q ∙ at_object (nat_eq p.o
 -- the effects of entries that commute on one object do
 pub as_table : (p q : Entry) → nat_eq p.object q.object ≡ true → CommuteForward p q → effects_commute (effect_in p) (effect_in q) ≡ true
 as_table p q same commutes = ap (λ b. if b then effects_commute (effect_in p) (effect_in q) else true) (sym same)
-    ∙ sym (by_effects p q) ∙ (entries_exact p q).1 commutes
+    ∙ (entries_exact p q).1 commutes
 
 -- ---- what the table of each kind says by classes
 

@@ -25,11 +25,11 @@ use Rattle.atoms.proofs.Items.{one_item}
 use Rattle.objects.specs.declared.call.Call.{Call}
 use Rattle.objects.specs.declared.call.Reply.{Reply}
 use Rattle.objects.specs.declared.entry.Entry.{Entry}
-use Rattle.conflicts.specs.Effects.{Effect, OfAccount, OfCounter, OfSet, OfQueue, OfDirectory, OfMax, Mixed}
+use Rattle.objects.specs.Tables.{Effect, OfAccount, OfCounter, OfSet, OfQueue, OfDirectory, OfMax, Mixed, effect_of, effects_commute}
 use Rattle.conflicts.specs.contracts.effect.EffectKindPartialEq.TheImpl as kind_eq
 use Rattle.conflicts.specs.contracts.effect.EffectKindEq.TheImpl.Laws.{laws-law}
 use Rattle.conflicts.specs.declared.strength.Strength.{Strength}
-use Rattle.conflicts.specs.Effects.{effect_of, effects_commute, effect_strength, account_strength, counter_strength, set_strength}
+use Rattle.conflicts.specs.Effects.{effect_strength, account_strength, counter_strength, set_strength}
 use Rattle.conflicts.specs.Effects.{queue_strength, key_parts, directory_strength, max_strength}
 use Rattle.conflicts.specs.Strictness.{IsAsStrict, AreAsStrict, EffectsAreAsStrict, strength_of, is_within, covers}
 use Rattle.conflicts.proofs.EffectLemmas.{effect_in, by_table, as_table}

@@ -2,7 +2,8 @@
 use Rattle.std.specs.Prelude.{ℕ, ◌+◌, ◌^◌, Bool, true, false, not, cond, List, [], ◌∷◌}
 use Rattle.objects.specs.declared.call.Call.{Call}
 use Rattle.objects.specs.declared.call.Reply.{Reply}
-use Rattle.conflicts.specs.Effects.{effect_of, effect_class}
+use Rattle.objects.specs.Tables.{effect_of}
+use Rattle.conflicts.specs.Effects.{effect_class}
 use Rattle.conflicts.specs.declared.classes.Class.{Class}
 use Rattle.conflicts.specs.declared.classes.Class.TheVariants.{Deposit, Withdrawal, Refusal, Balance, Count, Raise, Change, Put, Enqueue}
 use Rattle.conflicts.specs.declared.classes.Class.TheVariants.{Dequeue, Size, Look, Taken}

@@ -1,11 +1,5 @@
--- What operations did: all that is said of conflicts kind by kind.
-use Rattle.std.specs.Prelude.{ℕ, ◌+◌, Bool, true, Option, Some, None}
-use Rattle.atoms.specs.Account.{account_effect, account_effects_commute}
-use Rattle.atoms.specs.Counter.{counter_effect, counter_effects_commute}
-use Rattle.atoms.specs.ItemSet.{set_effect, set_effects_commute}
-use Rattle.atoms.specs.Queue.{queue_effect, queue_effects_commute}
-use Rattle.atoms.specs.Directory.{directory_effect, directory_effects_commute}
-use Rattle.atoms.specs.MaxRegister.{max_effect, max_effects_commute}
+-- The classes, items and strengths of effects, kind by kind.
+use Rattle.std.specs.Prelude.{ℕ, ◌+◌, Option, Some, None}
 use Rattle.atoms.specs.declared.item.Item.{Item}
 use Rattle.atoms.specs.declared.account.AccountEffect.{AccountEffect}
 use Rattle.atoms.specs.declared.account.AccountEffect.TheVariants as account
@@ -20,46 +14,13 @@ use Rattle.atoms.specs.declared.directory.KeyEffect.{KeyEffect}
 use Rattle.atoms.specs.declared.directory.KeyEffect.TheVariants as key
 use Rattle.atoms.specs.declared.max_register.MaxEffect.{MaxEffect}
 use Rattle.atoms.specs.declared.max_register.MaxEffect.TheVariants as max
-use Rattle.objects.specs.declared.call.Call.{Call}
-use Rattle.objects.specs.declared.call.Call.TheVariants as call
-use Rattle.objects.specs.declared.call.Reply.{Reply}
-use Rattle.objects.specs.declared.call.Reply.TheVariants as reply
+use Rattle.objects.specs.Tables.{Effect, OfAccount, OfCounter, OfSet, OfQueue, OfDirectory, OfMax, Mixed}
 use Rattle.conflicts.specs.declared.classes.Class.{Class}
 use Rattle.conflicts.specs.declared.classes.Class.TheVariants.{Deposit, Withdrawal, Refusal, Balance, Count, Raise, Change, Put, Enqueue}
 use Rattle.conflicts.specs.declared.classes.Class.TheVariants.{Dequeue, Size, Look, Taken}
 use Rattle.conflicts.specs.declared.effect.EffectKind.{EffectKind}
 use Rattle.conflicts.specs.declared.effect.EffectKind.TheVariants as kind
 use Rattle.conflicts.specs.declared.strength.Strength.{Strength}
-
--- what an operation needs and does, by its kind; or its call is of one kind, and its reply of another
-pub data Effect : Type 0 where
-  OfAccount : (effect : AccountEffect) → Effect
-  OfCounter : (effect : CounterEffect) → Effect
-  OfSet : (effect : SetEffect) → Effect
-  OfQueue : (effect : QueueEffect) → Effect
-  OfDirectory : (effect : DirectoryEffect) → Effect
-  OfMax : (effect : MaxEffect) → Effect
-  Mixed : Effect
-
--- of a call and a reply
-abbrev pub effect_of : Call → Reply → Effect
-effect_of (call.Account c) (reply.Account r) = OfAccount (account_effect (c, r))
-effect_of (call.Counter c) (reply.Counter r) = OfCounter (counter_effect (c, r))
-effect_of (call.Set c) (reply.Set r) = OfSet (set_effect (c, r))
-effect_of (call.Queue c) (reply.Queue r) = OfQueue (queue_effect (c, r))
-effect_of (call.Directory c) (reply.Directory r) = OfDirectory (directory_effect (c, r))
-effect_of (call.Max c) (reply.Max r) = OfMax (max_effect (c, r))
-effect_of c r = Mixed
-
--- which effects commute on one object
-abbrev pub effects_commute : Effect → Effect → Bool
-effects_commute (OfAccount e) (OfAccount f) = account_effects_commute e f
-effects_commute (OfCounter e) (OfCounter f) = counter_effects_commute e f
-effects_commute (OfSet e) (OfSet f) = set_effects_commute e f
-effects_commute (OfQueue e) (OfQueue f) = queue_effects_commute e f
-effects_commute (OfDirectory e) (OfDirectory f) = directory_effects_commute e f
-effects_commute (OfMax e) (OfMax f) = max_effects_commute e f
-effects_commute e f = true
 
 -- ---- classes
 

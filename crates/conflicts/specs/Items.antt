@@ -4,7 +4,8 @@ use Rattle.atoms.specs.declared.item.Item.{Item}
 use Rattle.objects.specs.declared.call.Call.{Call}
 use Rattle.objects.specs.declared.call.Reply.{Reply}
 use Rattle.objects.specs.declared.entry.Entry.{Entry}
-use Rattle.conflicts.specs.Effects.{effect_of, effect_item}
+use Rattle.objects.specs.Tables.{effect_of}
+use Rattle.conflicts.specs.Effects.{effect_item}
 use Rattle.conflicts.specs.Classes.{class_of, is_by_item}
 
 -- the item of an operation

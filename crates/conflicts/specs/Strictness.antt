@@ -2,7 +2,8 @@
 use Rattle.std.specs.Prelude.{◌&&◌, ◌==◌, Bool, nat_le, if◌then◌else◌, IsTrue}
 use Rattle.objects.specs.declared.entry.Entry.{Entry}
 use Rattle.objects.specs.Entries.{CommuteForward}
-use Rattle.conflicts.specs.Effects.{effect_of, effect_strength}
+use Rattle.objects.specs.Tables.{effect_of}
+use Rattle.conflicts.specs.Effects.{effect_strength}
 use Rattle.conflicts.specs.contracts.effect.EffectKindPartialEq.TheImpl as kind_eq
 use Rattle.conflicts.specs.declared.strength.Strength.{Strength}
 use Rattle.conflicts.specs.declared.strength.Topic.{Topic}

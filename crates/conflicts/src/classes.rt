@@ -107,7 +107,8 @@ impl Class {
     pub fn taken_from(self, set: u16) -> u16
         requires { bit_at set (class_number self) ≡ 1 }
         ensures less { result < set }
-        ensures others { (class : OneClass) → bit_at result (class_number class) ≡ 0 → (class ≡ self) ⊎ (bit_at set (class_number class) ≡ 0) }
+        ensures others { (class : OneClass) → bit_at result (class_number class) ≡ 0
+            → (class ≡ self) ⊎ (bit_at set (class_number class) ≡ 0) }
     {
         set & !self.bit()
     }

@@ -36,7 +36,8 @@ pub struct Measured<'e> {
 /// Whether the first two entries are known to be as strict as the third: whatever commutes forward
 /// with both commutes with it. It is where one of them is alone, or where the two together are.
 pub fn are_as_strict(first: Measured<'_>, second: Measured<'_>, third: Measured<'_>) -> bool
-    ensures { IsTrue result → AreAsStrict first.entry.entry.now second.entry.entry.now third.entry.entry.now }
+    ensures { IsTrue result
+        → AreAsStrict first.entry.entry.now second.entry.entry.now third.entry.entry.now }
 {
     first.strength.covers(third.strength)
         || second.strength.covers(third.strength)
@@ -48,7 +49,8 @@ pub fn are_as_strict(first: Measured<'_>, second: Measured<'_>, third: Measured<
 
 /// Whether two operations on one object are together as strict as a third on it.
 fn together_as_strict(first: &Entry, second: &Entry, third: &Entry) -> bool
-    ensures { first.now.object ≡ third.now.object → second.now.object ≡ third.now.object → IsTrue result → AreAsStrict first.now second.now third.now }
+    ensures { first.now.object ≡ third.now.object → second.now.object ≡ third.now.object
+        → IsTrue result → AreAsStrict first.now second.now third.now }
 {
     match (
         &first.call,

@@ -135,7 +135,15 @@ impl<'s> Model for View<'s> {
 
     ghost Value = { Intentions };
 
-    ghost coded = { code_by (List OneValue × (List OneEntry × (List OneEntry × List (List OneEntry)))) (coded× (coded_list one_value_type.the_row.coded) (coded× (coded_list one_entry_type.the_row.coded) (coded× (coded_list one_entry_type.the_row.coded) (coded_list (coded_list one_entry_type.the_row.coded))))) (λ v. (v.snapshot, (v.entries, (v.net, v.outer)))) (λ p. record { snapshot = p.0; entries = p.1.0; net = p.1.1.0; outer = p.1.1.1 }) (λ _. refl) };
+    ghost coded = { code_by
+        (List OneValue × (List OneEntry × (List OneEntry × List (List OneEntry))))
+        (coded× (coded_list one_value_type.the_row.coded)
+        (coded× (coded_list one_entry_type.the_row.coded)
+        (coded× (coded_list one_entry_type.the_row.coded)
+        (coded_list (coded_list one_entry_type.the_row.coded)))))
+        (λ v. (v.snapshot, (v.entries, (v.net, v.outer))))
+        (λ p. record { snapshot = p.0; entries = p.1.0; net = p.1.1.0; outer = p.1.1.1 })
+        (λ _. refl) };
 
     ghost view = { λ v. record {
       snapshot = v.snapshot.now;

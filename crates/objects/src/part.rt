@@ -16,11 +16,13 @@ pub fn perform_on(
     object: u32,
     call: &Call,
 ) -> Result<(), NoMemory>
-    requires fits { IfAmong first values.old object (λ value. kind_of_value value ≡ kind_of_call call.now) }
+    requires fits { IfAmong first values.old object
+        (λ value. kind_of_value value ≡ kind_of_call call.now) }
     requires room { IfAmong first values.old object (λ value. HasRoom value call.now) }
     ensures ok { OnOk result (IsPerformedOn first values.old values.new object call.now) }
     ensures err { OnErr result (values.new ≡ values.old) }
-    ensures refused { OnErr result (IsAmong first values.old object (λ value. MayGrow value call.now)) }
+    ensures refused { OnErr result (IsAmong first values.old object
+        (λ value. MayGrow value call.now)) }
 {
     if let Some(place) = (object as usize).checked_sub(first) {
         if place < values.len() {

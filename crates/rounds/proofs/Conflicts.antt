@@ -16,7 +16,7 @@ use Rattle.meaning.proofs.Batches.{standing_run}
 use Rattle.committed.specs.Summaries.{entries_of, IsSummary}
 use Rattle.committed.proofs.SummaryLemmas.{stands-summary, past-summary}
 use Rattle.rounds.specs.declared.pending_run.PendingRun.{PendingRun}
-use Rattle.rounds.specs.PendingRuns.{left_by, AreSumsOf, IsCommittable, IsPendingOf, net_in, IsListed, own_net, own_nets, HoldsPast}
+use Rattle.rounds.specs.PendingRuns.{left_by, AreSumsOf, IsCommittable, IsPendingOf, net_in, IsListedNet, own_net, own_nets, HoldsPast}
 use Rattle.rounds.specs.PendingRuns.{AreSpanned}
 use Rattle.committed.specs.Spans.{AreIn}
 use Rattle.rounds.specs.declared.pending_run.Net.{Net}
@@ -48,7 +48,7 @@ some_run P [] i lt use_run = absurd (omega arith)
 some_run P (run ∷ runs) i lt use_run = use_run run
 
 -- a net is in its place, where the record has it too
-net_at : (place : Net) (summed recorded net : List Entry) → (IsListed place → net_in summed [] place ≡ net) → recorded ≡ net
+net_at : (place : Net) (summed recorded net : List Entry) → (IsListedNet place → net_in summed [] place ≡ net) → recorded ≡ net
     → net_in summed recorded place ≡ net
 net_at Summed summed recorded net listed told = listed tt
 net_at (Listed entries) summed recorded net listed told = listed tt

@@ -18,8 +18,8 @@ use Rattle.batch.specs.Views.{record_view}
 use Rattle.batch.specs.declared.batch.Batch.{Batch}
 use Rattle.rounds.specs.declared.make.NumberedRun.{NumberedRun}
 use Rattle.claims.specs.Views.{bit, times}
-use Rattle.rounds.specs.PendingRuns.{AreSumsOf, IsPendingOf, IsListed, listed_net, net_of_run, numbers_of}
-use Rattle.rounds.specs.PendingRuns.{IsMade, AreMade}
+use Rattle.rounds.specs.PendingRuns.{AreSumsOf, IsPendingOf, IsListedNet, listed_net, net_of_run, numbers_of}
+use Rattle.rounds.specs.PendingRuns.{IsMade, AreMadeRuns}
 use Rattle.committed.specs.Spans.{AreIn}
 use Rattle.claims.proofs.Lists.{times-append}
 use Rattle.rounds.proofs.Times.{times_sum}
@@ -38,8 +38,8 @@ times_numbers i xs ys = ap (times i) (map-append (λ (m : NumberedRun). m.number
 -- one run more
 pub made_more : (batch : Batch) (state : State) (listed : List Entry) (numbers : List ℕ) (i : ℕ) (m : NumberedRun)
     (made more : List NumberedRun) → i < length numbers → m.number ≡ get_or numbers i 0 → more ≡ made ++ m ∷ []
-    → AreMade batch state listed (take i numbers) made → IsMade batch state listed m
-    → AreMade batch state listed (take (i + 1) numbers) more
+    → AreMadeRuns batch state listed (take i numbers) made → IsMade batch state listed m
+    → AreMadeRuns batch state listed (take (i + 1) numbers) more
 made_more batch state listed numbers i m made more lt is pushed so_far here = record {
   each = All-same (IsMade batch state listed) more (made ++ m ∷ []) pushed (All-push (IsMade batch state listed) made m so_far.each here);
   dealt = λ j.
@@ -57,7 +57,7 @@ pub record IsGroupSoFar (batch : Batch) (state : State) (listed : List Entry) (n
   pub ready : IsReadyOn state workspace
   pub own : List NumberedRun
   pub is : all ≡ before ++ own
-  pub all_made : AreMade batch state listed numbers own
+  pub all_made : AreMadeRuns batch state listed numbers own
 
 -- none is made yet
 pub none_made : (batch : Batch) (state : State) (listed : List Entry) (numbers : List ℕ) (workspace : Workspace) (before : List NumberedRun)
@@ -83,9 +83,10 @@ times_chunks i size count numbers some are =
 -- the groups' runs, each group once, are a run for each of the numbers
 pub all_groups : (batch : Batch) (state : State) (listed : List Entry) (numbers : List ℕ) (cut count : ℕ) (made : List NumberedRun)
     → 0 < cut → count ≡ div_ceil (length numbers) cut
-    → AreGivenOnce (λ k. AreMade batch state listed (slice_chunk numbers cut k)) count made → AreMade batch state listed numbers made
+    → AreGivenOnce (λ k. AreMadeRuns batch state listed (slice_chunk numbers cut k)) count made
+    → AreMadeRuns batch state listed numbers made
 all_groups batch state listed numbers cut count made some are given =
-    let IsGroup : ℕ → List NumberedRun → Type 0 = λ k. AreMade batch state listed (slice_chunk numbers cut k) in record {
+    let IsGroup : ℕ → List NumberedRun → Type 0 = λ k. AreMadeRuns batch state listed (slice_chunk numbers cut k) in record {
       each = each_given IsGroup (IsMade batch state listed) (λ k own here. here.each) given.order made given.given;
       dealt = λ i. sum_given_once IsGroup (λ ms. times i (numbers_of ms)) refl (times_numbers i) (λ k. times i (slice_chunk numbers cut k))
           (λ k own here. here.dealt i) count made given ∙ times_chunks i cut count numbers some are;
@@ -103,7 +104,7 @@ all_front P (x ∷ xs) y all =
 
 -- a pending run of a run of a meaning, whose net is listed there
 pub pending_of : (listed : NetList) (meant : Execution Taken) (run : Run) (pending : PendingRun) → IsListedRunOf listed meant run
-    → pending.tree ≡ run.tree → (IsListed pending.net → listed_net pending ≡ net_of_run listed run)
+    → pending.tree ≡ run.tree → (IsListedNet pending.net → listed_net pending ≡ net_of_run listed run)
     → AreSumsOf pending.sums run.entries.items (net_of_run listed run) → AreIn pending.span (net_of_run listed run)
     → IsPendingOf meant pending
 pending_of listed meant run pending is tree net are inside = record {

@@ -42,10 +42,10 @@ net_in summed recorded (Listed net) = net.items
 net_in summed recorded Recorded = recorded
 
 -- it isn't only in the record
-abbrev pub IsListed : Net → Type 0
-IsListed Summed = ⊤
-IsListed (Listed net) = ⊤
-IsListed Recorded = ⊥
+abbrev pub IsListedNet : Net → Type 0
+IsListedNet Summed = ⊤
+IsListedNet (Listed net) = ⊤
+IsListedNet Recorded = ⊥
 
 -- the net of a run, and none where it is only in the record
 abbrev pub listed_net : PendingRun → List Entry
@@ -67,7 +67,7 @@ pub record AreSumsOf (sums : Sums) (entries net : List Entry) : Type 0 where
 -- what a round commits of a run of a meaning: its record, its net and the span of it
 pub record IsCommittable (meant : Execution Taken) (run : PendingRun) : Type 0 where
   pub tree : record_view run.tree ≡ shown_of meant
-  pub net : IsListed run.net → listed_net run ≡ net_of meant
+  pub net : IsListedNet run.net → listed_net run ≡ net_of meant
   pub span : AreIn run.span (net_of meant)
 
 -- a pending run of a meaning: it can be committed, and has summaries of its entries and its net
@@ -108,14 +108,14 @@ IsMade batch state listed made = IsPendingOf (meaning batch made.number state) m
     × (IsTrue made.passes → Passes listed made.run.value)
 
 -- a run for each of the numbers, in any order, made on this state, and looked at with this list
-pub record AreMade (batch : Batch) (state : State) (listed : List Entry) (numbers : List ℕ) (made : List NumberedRun) : Type 0 where
+pub record AreMadeRuns (batch : Batch) (state : State) (listed : List Entry) (numbers : List ℕ) (made : List NumberedRun) : Type 0 where
   pub each : All (IsMade batch state listed) made
   pub dealt : (i : ℕ) → times i (numbers_of made) ≡ times i numbers
 
 -- such runs were added to others
 abbrev pub AreAdded : Batch → State → List Entry → List ℕ → List NumberedRun → List NumberedRun → Type 0
 AreAdded batch state listed numbers before after =
-    (own : List NumberedRun) × (after ≡ before ++ own) × AreMade batch state listed numbers own
+    (own : List NumberedRun) × (after ≡ before ++ own) × AreMadeRuns batch state listed numbers own
 
 -- what each run leaves is in its span; they are of the blocks from this number on
 abbrev pub AreSpanned : List Block → ℕ → List PendingRun → Type 0

@@ -73,7 +73,7 @@ pub record HasGrown (b : ℕ) (old new : Window) : Type 0 where
   pub still : (i : ℕ) → old.first ≤ i → IsValid old i → IsValid new i
 
 -- a run is put into the place of its number, and is valid there
-pub record IsPut (made : NumberedRun) (old new : Window) : Type 0 where
+pub record IsPutInWindow (made : NumberedRun) (old new : Window) : Type 0 where
   pub first : new.first ≡ old.first
   pub runs : new.runs.items ≡ set old.runs.items (made.number - old.first) made.run.value
   pub valid : new.valid.items ≡ set old.valid.items (made.number - old.first) true

@@ -5,7 +5,7 @@ ghost use Rattle.std.specs.List.{All};
 ghost use Rattle.objects.specs.Entries.{kinds};
 ghost use Rattle.rounds.specs.Passes.{CanBeMade};
 ghost use Rattle.rounds.specs.Workspaces.{IsReadyOn};
-ghost use Rattle.rounds.specs.PendingRuns.{AreMade, AreAdded};
+ghost use Rattle.rounds.specs.PendingRuns.{AreMadeRuns, AreAdded};
 ghost use Rattle.meaning.specs.declared.limits.TheConstants.{MAX_TRANSACTIONS};
 ghost use Rattle.plan.specs.declared.plan.TheConstants.{MAX_CUT, MAX_WORKERS};
 
@@ -155,7 +155,7 @@ pub(crate) fn make_all<R: Threads + Sync, G: Gate>(
     requires within { All (λ n. CanBeMade job.now.batch.now objects.now n) numbers.now }
     requires same_kinds { kinds objects.now ≡ kinds job.now.batch.now.objects }
     ensures { IfOk result (λ made.
-        AreMade job.now.batch.now objects.now nets.now numbers.now made.items) }
+        AreMadeRuns job.now.batch.now objects.now nets.now numbers.now made.items) }
 {
     let Job {
         threads,

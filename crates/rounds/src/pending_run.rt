@@ -5,7 +5,7 @@ ghost use Rattle.committed.specs.Summaries.{entries_of};
 ghost use Rattle.committed.specs.declared.summary.TheConstants.{FEW_ENTRIES};
 ghost use Rattle.meaning.specs.Records.{Taken};
 ghost use Rattle.meaning.specs.OneThread.{Execution};
-ghost use Rattle.rounds.specs.PendingRuns.{left_by, listed_net, net_of_run, IsListed, AreSumsOf, IsCommittable};
+ghost use Rattle.rounds.specs.PendingRuns.{left_by, listed_net, net_of_run, IsListedNet, AreSumsOf, IsCommittable};
 
 use batch::Record;
 use committed::{FEW_ENTRIES, MarkedEntry, Span, summarize};
@@ -156,7 +156,7 @@ impl PendingRun {
         ensures sums { OnOk result
             (AreSumsOf self.new.sums run.old.entries.items (net_of_run listed run.old)) }
         ensures net { OnOk result
-            (IsListed self.new.net → listed_net self.new ≡ net_of_run listed run.old) }
+            (IsListedNet self.new.net → listed_net self.new ≡ net_of_run listed run.old) }
         ensures span { OnOk result (AreIn self.new.span (net_of_run listed run.old)) }
     {
         let net = listed.of(&run.entries, &run.net);

@@ -7,7 +7,7 @@ ghost use Rattle.rounds.specs.Workspaces.{IsReadyOn};
 ghost use Rattle.rounds.specs.Passes.{CanBeMade};
 ghost use Rattle.rounds.specs.PendingRuns.{IsPendingOf, HoldsPast};
 ghost use Rattle.rounds.specs.Views.{blocks_of, meaning};
-ghost use Rattle.rounds.specs.Windows.{flag_at, end_of, runs_between, IsValid, AllValid, IsWindowAt, IsOpenedBy, HasGrown, IsPut, AreFallen, AreStale, AreKept, IsFreedAt, AreCleared, AreSettled, IsShortened, AreMissing, IsDecided, Told, ArePassing};
+ghost use Rattle.rounds.specs.Windows.{flag_at, end_of, runs_between, IsValid, AllValid, IsWindowAt, IsOpenedBy, HasGrown, IsPutInWindow, AreFallen, AreStale, AreKept, IsFreedAt, AreCleared, AreSettled, IsShortened, AreMissing, IsDecided, Told, ArePassing};
 ghost use Rattle.rounds.specs.declared.pending_run.PendingRun.{PendingRun as OnePending};
 ghost use Rattle.meaning.specs.declared.limits.TheConstants.{MAX_TRANSACTIONS};
 ghost use Rattle.plan.specs.declared.plan.TheConstants.{MAX_WORKERS};
@@ -181,7 +181,7 @@ impl Window {
     fn put(&mut self, made: NumberedRun)
         requires flags { length self.old.valid.items ≡ length self.old.runs.items }
         requires number { (self.old.first ≤ made.number) × (made.number < end_of self.old) }
-        ensures { IsPut made self.old self.new }
+        ensures { IsPutInWindow made self.old self.new }
     {
         let NumberedRun { number, run, .. } = made;
         let place = number - self.first;
