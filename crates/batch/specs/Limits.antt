@@ -1,10 +1,8 @@
 -- What every batch keeps: it can be run, and it is within the limits of a document.
 use Rattle.std.specs.Prelude.{◌≡◌, ℕ, suc, ◌+◌, ◌≤◌, max, List, [], ◌∷◌, length, ⊤}
-use Rattle.std.specs.FinSet as finite_set
-use Rattle.std.specs.FinMap as finite_map
 use Rattle.objects.specs.declared.kind.Kind.{Kind}
 use Rattle.objects.specs.declared.value.Value.{Value}
-use Rattle.objects.specs.declared.value.Value.TheVariants as value
+use Rattle.objects.specs.Contents.{content_of, content_length}
 use Rattle.objects.specs.Entries.{State, kinds}
 use Rattle.meaning.specs.Trees.{Block, NoStep, Steps, Step, Operation, Fill, If, Subaction, Abort, Parallel, Handlers, ForReason, Otherwise}
 use Rattle.meaning.specs.Trees.{GoOn, Pass, Children, NoChild, Child}
@@ -69,10 +67,7 @@ all_nodes (block ∷ blocks) = nodes block + all_nodes blocks
 
 -- the members, items or bindings of a value
 abbrev pub entries_in : Value → ℕ
-entries_in (value.Set s) = finite_set.len s
-entries_in (value.Queue q) = length q
-entries_in (value.Directory d) = finite_map.len d
-entries_in v = 0
+entries_in v = content_length (content_of v)
 
 abbrev pub all_entries_in : State → ℕ
 all_entries_in [] = 0

@@ -7,7 +7,7 @@ use Rattle.std.specs.FinMap as finite_map
 use Rattle.atoms.specs.declared.item.Item.{Item}
 use Rattle.objects.specs.declared.call.Call.{Call}
 use Rattle.objects.specs.declared.value.Value.{Value}
-use Rattle.objects.specs.declared.value.Value.TheVariants as value
+use Rattle.objects.specs.Contents.{Content, Set, Queue, Directory, content_of}
 use Rattle.vocabulary.specs.Verbs.{ItemsAre, phrase_of}
 use Rattle.meaning.specs.declared.template.Argument.{Argument}
 use Rattle.meaning.specs.declared.template.Argument.TheVariants.{Is, From}
@@ -75,12 +75,15 @@ abbrev pub AllNamed : Texts → List Block → Type 0
 AllNamed texts [] = ⊤
 AllNamed texts (block ∷ blocks) = IsNamed texts block × AllNamed texts blocks
 
--- so has each item of a value
+-- so has each item of what a value holds
+abbrev pub IsNamedContent : Texts → Content → Type 0
+IsNamedContent texts (Set s) = (x : Item) → finite_set.contains s x ≡ true → HasText texts x
+IsNamedContent texts (Queue q) = All (HasText texts) q
+IsNamedContent texts (Directory d) = (k x : Item) → finite_map.get d k ≡ Some x → HasText texts k × HasText texts x
+IsNamedContent texts c = ⊤
+
 abbrev pub IsNamedValue : Texts → Value → Type 0
-IsNamedValue texts (value.Set s) = (x : Item) → finite_set.contains s x ≡ true → HasText texts x
-IsNamedValue texts (value.Queue q) = All (HasText texts) q
-IsNamedValue texts (value.Directory d) = (k x : Item) → finite_map.get d k ≡ Some x → HasText texts k × HasText texts x
-IsNamedValue texts v = ⊤
+IsNamedValue texts v = IsNamedContent texts (content_of v)
 
 abbrev pub AllNamedValues : Texts → List Value → Type 0
 AllNamedValues texts [] = ⊤

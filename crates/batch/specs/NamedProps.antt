@@ -6,7 +6,7 @@ use Rattle.vocabulary.specs.Verbs.{ItemsAre, phrase_of}
 use Rattle.vocabulary.specs.declared.verb.Phrase.{Phrase}
 use Rattle.vocabulary.specs.declared.verb.Phrase.TheVariants.{OfAmount, OfItem, OfPair, Alone}
 use Rattle.objects.specs.declared.value.Value.{Value}
-use Rattle.objects.specs.declared.value.Value.TheVariants as value
+use Rattle.objects.specs.Contents.{Content, Number, Signed, Set, Queue, Directory, content_of}
 use Rattle.meaning.specs.declared.template.Argument.{Argument}
 use Rattle.meaning.specs.declared.template.Argument.TheVariants as argument
 use Rattle.meaning.specs.declared.template.Refusal.{Refusal}
@@ -19,7 +19,7 @@ use Rattle.meaning.specs.Trees.{Block, NoStep, Steps, Step, Operation, Fill, If,
 use Rattle.meaning.specs.Trees.{GoOn, Pass, Children, NoChild, Child}
 use Rattle.batch.specs.Names.{Texts}
 use Rattle.batch.specs.Named.{HasText, IsNamedCall, IsNamedArgument, IsNamedTemplate, IsNamedRefusal, IsNamedTest, IsNamed, IsNamedStep}
-use Rattle.batch.specs.Named.{AreNamedHandlers, AreNamed, AllNamed, IsNamedValue, AllNamedValues}
+use Rattle.batch.specs.Named.{AreNamedHandlers, AreNamed, AllNamed, IsNamedContent, AllNamedValues}
 
 items-prop : (texts : Texts) (p : Phrase) → IsProp (ItemsAre (HasText texts) p)
 items-prop texts (OfAmount v a) = hlevel props
@@ -91,14 +91,13 @@ pub AllNamed-prop : (texts : Texts) (blocks : List Block) → IsProp (AllNamed t
 AllNamed-prop texts [] = hlevel props
 AllNamed-prop texts (block ∷ blocks) = hlevel (props, IsNamed-prop texts block, AllNamed-prop texts blocks)
 
-IsNamedValue-prop : (texts : Texts) (v : Value) → IsProp (IsNamedValue texts v)
-IsNamedValue-prop texts (value.Account n) = hlevel props
-IsNamedValue-prop texts (value.Counter n) = hlevel props
-IsNamedValue-prop texts (value.Set s) = hlevel props
-IsNamedValue-prop texts (value.Queue q) = hlevel props
-IsNamedValue-prop texts (value.Directory d) = hlevel props
-IsNamedValue-prop texts (value.Max n) = hlevel props
+IsNamedContent-prop : (texts : Texts) (c : Content) → IsProp (IsNamedContent texts c)
+IsNamedContent-prop texts (Number n) = hlevel props
+IsNamedContent-prop texts (Signed n) = hlevel props
+IsNamedContent-prop texts (Set s) = hlevel props
+IsNamedContent-prop texts (Queue q) = hlevel props
+IsNamedContent-prop texts (Directory d) = hlevel props
 
 pub AllNamedValues-prop : (texts : Texts) (values : List Value) → IsProp (AllNamedValues texts values)
 AllNamedValues-prop texts [] = hlevel props
-AllNamedValues-prop texts (v ∷ values) = hlevel (props, IsNamedValue-prop texts v, AllNamedValues-prop texts values)
+AllNamedValues-prop texts (v ∷ values) = hlevel (props, IsNamedContent-prop texts (content_of v), AllNamedValues-prop texts values)

@@ -3,14 +3,12 @@ ghost use Rattle.std.specs.Prelude.{◌≡◌, pos};
 ghost use Rattle.std.specs.Option.{option_and_then};
 ghost use Rattle.meaning.specs.Amounts.{number_amount};
 ghost use Rattle.meaning.specs.Filling.{amount_from, end_after, fill, is_refusal, item_from, item_of, reason_for, reply_at_label};
-ghost use Rattle.meaning.specs.Labels.{reply_item, reply_number};
+ghost use Rattle.meaning.specs.Labels.{reply_number};
 
-use crate::labels::reply_item;
-use atoms::{
-    AccountReply, Amount, CounterReply, DirectoryReply, Item, MaxReply, QueueReply, SetReply,
-};
+use atoms::{Amount, Item};
 use meaning::{Argument, End, Held, Refusal, Template};
 use objects::{Call, Reply};
+use vocabulary::{Response, response_of};
 
 /// The call with what these labels hold. None where a reply has no such argument.
 pub fn fill(template: &Template, labels: &[Held]) -> Option<Call>
@@ -46,7 +44,7 @@ fn item_from(labels: &[Held], label: u32) -> Option<Item>
     ensures { result ≡ item_from labels.now label }
 {
     match reply_at(labels, label) {
-        Some(reply) => reply_item(&reply),
+        Some(reply) => response_of(&reply).item(),
         None => None,
     }
 }
@@ -74,13 +72,10 @@ fn reply_at(labels: &[Held], label: u32) -> Option<Reply>
 fn reply_amount(reply: &Reply) -> Option<Amount>
     ensures { result ≡ option_and_then number_amount (reply_number reply.now) }
 {
-    match reply {
-        Reply::Account(AccountReply::Number(number)) => whole_amount(*number),
-        Reply::Set(SetReply::Number(number)) => whole_amount(*number),
-        Reply::Queue(QueueReply::Number(number)) => whole_amount(*number),
-        Reply::Max(MaxReply::Number(number)) => whole_amount(*number),
-        Reply::Counter(CounterReply::Number(number)) => signed_amount(*number),
-        _ => None,
+    match response_of(reply) {
+        Response::Number(number) => whole_amount(number),
+        Response::Signed(number) => signed_amount(number),
+        Response::Word(_) | Response::WithItem(..) => None,
     }
 }
 
@@ -124,11 +119,8 @@ pub fn end_after(refusal: Refusal, reply: &Reply) -> End
 fn is_refusal(reply: &Reply) -> bool
     ensures { result ≡ is_refusal reply.now }
 {
-    matches!(
-        reply,
-        Reply::Account(AccountReply::No)
-            | Reply::Set(SetReply::Present | SetReply::Absent | SetReply::No)
-            | Reply::Queue(QueueReply::Empty)
-            | Reply::Directory(DirectoryReply::Taken | DirectoryReply::Missing)
-    )
+    match response_of(reply).word() {
+        Some(word) => word.refuses(),
+        None => false,
+    }
 }

@@ -6,7 +6,7 @@ use Rattle.atoms.specs.declared.item.Item.{Item}
 use Rattle.objects.specs.Entries.{State}
 use Rattle.objects.specs.Objects.{kind_of_value}
 use Rattle.objects.specs.declared.value.Value.{Value}
-use Rattle.objects.specs.declared.value.Value.TheVariants as value
+use Rattle.objects.specs.Contents.{Content, Number, Signed, Set, Queue, Directory, content_of}
 use Rattle.meaning.specs.WellFormed.{size_of}
 use Rattle.meaning.specs.Words.{Naming, joined_by, members}
 use Rattle.vocabulary.specs.Words.{kind_text}
@@ -54,13 +54,15 @@ abbrev pub pair_text : Naming → Item × Item → List ℕ
 pair_text names pair = list_text (item_text names pair.0 ∷ item_text names pair.1 ∷ [])
 
 -- a value as a start: members and keys in the order of their numbers, a queue from its front
+abbrev pub content_json : Naming → Content → List ℕ
+content_json names (Number n) = decimal n
+content_json names (Signed n) = signed_decimal n
+content_json names (Set s) = list_text (map (item_text names) (members s))
+content_json names (Queue q) = list_text (map (item_text names) q)
+content_json names (Directory d) = list_text (map (pair_text names) (finite_map.entries d))
+
 abbrev pub start_text : Naming → Value → List ℕ
-start_text names (value.Account n) = decimal n
-start_text names (value.Counter n) = signed_decimal n
-start_text names (value.Set s) = list_text (map (item_text names) (members s))
-start_text names (value.Queue q) = list_text (map (item_text names) q)
-start_text names (value.Directory d) = list_text (map (pair_text names) (finite_map.entries d))
-start_text names (value.Max n) = decimal n
+start_text names v = content_json names (content_of v)
 
 abbrev pub object_text : Naming → ℕ → Value → List ℕ
 object_text names n v =

@@ -12,7 +12,7 @@ use atoms::{Directory, ItemSet, Queue};
 use batch::Names;
 use doc_rules::Limits;
 use meaning::limits::MAX_START;
-use objects::{Objects, Value};
+use objects::{Content, Objects, Value};
 use report::{item_name, object_name};
 use serial::NoMemory;
 use std::alloc::Global;
@@ -60,7 +60,7 @@ pub fn first_unfit(version: u8, objects: &Objects) -> Option<Misfit>
         if let Some(unfit) = unfit_after(version, entries, value) {
             return Some(Misfit { place, unfit });
         }
-        entries += entries_in(value);
+        entries += value.content().len();
     }
     None
 }
@@ -75,7 +75,7 @@ pub(crate) fn unfit_after(version: u8, entries: usize, value: &Value) -> Option<
     if magnitude(value) > MAX_START {
         return Some(Unfit::Start);
     }
-    if entries_in(value) > Limits::of(version).entries - entries {
+    if value.content().len() > Limits::of(version).entries - entries {
         return Some(Unfit::TooMany);
     }
     None
@@ -85,22 +85,10 @@ pub(crate) fn unfit_after(version: u8, entries: usize, value: &Value) -> Option<
 fn magnitude(value: &Value) -> u64
     ensures { result ≡ size_of value.now }
 {
-    match value {
-        Value::Account(number) | Value::Max(number) => *number,
-        Value::Counter(number) => number.unsigned_abs(),
-        Value::Set(_) | Value::Queue(_) | Value::Directory(_) => 0,
-    }
-}
-
-// How many members, items or keys a value has.
-pub(crate) fn entries_in(value: &Value) -> usize
-    ensures { result ≡ entries_in value.now }
-{
-    match value {
-        Value::Account(_) | Value::Counter(_) | Value::Max(_) => 0,
-        Value::Set(set) => set.len(),
-        Value::Queue(queue) => queue.items().len(),
-        Value::Directory(directory) => directory.entries().len(),
+    match value.content() {
+        Content::Number(number) => number,
+        Content::Signed(number) => number.unsigned_abs(),
+        Content::Set(_) | Content::Queue(_) | Content::Directory(_) => 0,
     }
 }
 
@@ -175,20 +163,20 @@ fn write_start(out: &mut String, names: &Names, value: &Value) -> Result<(), NoM
     ensures { OnOk result (string_bytes out.new ≡ string_bytes out.old
         ++ start_text (names_of names.now) value.now) }
 {
-    match value {
-        Value::Account(number) | Value::Max(number) => write!(out, "{number}")?,
-        Value::Counter(number) => write!(out, "{number}")?,
-        Value::Set(set) => {
+    match value.content() {
+        Content::Number(number) => write!(out, "{number}")?,
+        Content::Signed(number) => write!(out, "{number}")?,
+        Content::Set(set) => {
             write!(out, "[")?;
             write_members(out, names, set)?;
             write!(out, "]")?;
         }
-        Value::Queue(queue) => {
+        Content::Queue(queue) => {
             write!(out, "[")?;
             write_queue(out, names, queue)?;
             write!(out, "]")?;
         }
-        Value::Directory(directory) => {
+        Content::Directory(directory) => {
             write!(out, "[")?;
             write_pairs(out, names, directory)?;
             write!(out, "]")?;

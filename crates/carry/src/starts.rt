@@ -8,7 +8,7 @@ ghost use Rattle.carry.specs.Carried.{first_unfit};
 ghost use Rattle.doc_tree.specs.Scope.{is_listed};
 ghost use Rattle.carry.specs.Joined.{added, are_of_one_kind, ended, first_clash, joined, named_view, object_text_of, own, start_at, start_view, value_of};
 
-use crate::document::{Misfit, entries_in, unfit_after, write_object};
+use crate::document::{Misfit, unfit_after, write_object};
 use batch::Names;
 use doc_tree::hashing::{NameHashing, TextSet};
 use indexmap::IndexSet;
@@ -214,7 +214,7 @@ pub fn first_misfit(version: u8, starts: &[Start<'_>]) -> Option<Misfit>
         if let Some(unfit) = unfit_after(version, entries, start.value) {
             return Some(Misfit { place, unfit });
         }
-        entries += entries_in(start.value);
+        entries += start.value.content().len();
     }
     None
 }

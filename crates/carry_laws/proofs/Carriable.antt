@@ -9,6 +9,7 @@ use Rattle.atoms.specs.declared.item.Item.{Item}
 use Rattle.objects.specs.Entries.{State}
 use Rattle.objects.specs.declared.value.Value.{Value}
 use Rattle.objects.specs.declared.value.Value.TheVariants as value
+use Rattle.objects.specs.Contents.{Content, Set, Queue, Directory, content_of}
 use Rattle.meaning.specs.Words.{Naming, members}
 use Rattle.batch.specs.Limits.{entries_in}
 use Rattle.batch.specs.Names.{AreNames, is_name}
@@ -42,23 +43,24 @@ first_fits version place entries v values e =
     by false false l m none = record { small = ltb-false _ _ l; few = ltb-false _ _ m; rest = none }
 
 -- the members of a set and the keys of a directory have names of their own
+abbrev pub IsApartContent : Naming → Content → Type 0
+IsApartContent names (Set s) = Apart (map names.item (members s))
+IsApartContent names (Directory d) = Apart (map names.item (finite_map.keys d))
+IsApartContent names c = ⊤
+
 abbrev pub IsApart : Naming → Value → Type 0
-IsApart names (value.Set s) = Apart (map names.item (members s))
-IsApart names (value.Directory d) = Apart (map names.item (finite_map.keys d))
-IsApart names v = ⊤
+IsApart names v = IsApartContent names (content_of v)
 
 module _ (names : Naming) where
   pub writable : (version : ℕ) (v : Value) → size_of v ≤ MAX_START → ((x : Item) → HasItem v x → IsNamed version names x)
       → IsWritable version names v
-  writable version (value.Account n) small named = small
-  writable version (value.Counter n) small named = small
   writable version (value.Set s) small named = each_of (IsNamed version names) (members s) (λ x at. named x (among_contained s x at))
   writable version (value.Queue q) small named = each_of (IsNamed version names) q (λ x at. named x (contains_among q x at))
   writable version (value.Directory d) small named = each_of (AreNamedBoth version names) (finite_map.entries d) (λ e at. (
     named e.0 (e.0, e.1, among_bound d e.0 e.1 at, inl refl),
     named e.1 (e.0, e.1, among_bound d e.0 e.1 at, inr refl),
   ))
-  writable version (value.Max n) small named = small
+  writable version v small named = small
 
   key_of_map : (d : finite_map.FinMap item_cmp Item) (x : Item) → Among x (finite_map.keys d) → HasItem (value.Directory d) x
   key_of_map d x at =
@@ -66,14 +68,11 @@ module _ (names : Naming) where
       (found.0.0, found.0.1, among_bound d found.0.0 found.0.1 found.1, inl (sym found.2))
 
   pub apart : (v : Value) → ((x y : Item) → HasItem v x → HasItem v y → names.item x ≡ names.item y → x ≡ y) → IsApart names v
-  apart (value.Account n) one = tt
-  apart (value.Counter n) one = tt
   apart (value.Set s) one = apart_map names.item (members s) (λ x y at at'. one x y (among_contained s x at) (among_contained s y at'))
       (members_apart s)
-  apart (value.Queue q) one = tt
   apart (value.Directory d) one = apart_map names.item (finite_map.keys d)
       (λ x y at at'. one x y (key_of_map d x at) (key_of_map d y at')) (keys_apart d)
-  apart (value.Max n) one = tt
+  apart v one = tt
 
   pub all_writable : (version n entries : ℕ) (values : State) → first_unfit version n entries values ≡ None
       → AreNames version (object_names names n values) → ((x : Item) → SomeHasItem values x → IsNamed version names x)

@@ -1,7 +1,7 @@
 -- The document of objects as they are has no fault.
 use Rattle.std.proofs.Common.{◌≡◌, ◌^◌, ℤ, pos, negsuc, ℕ, suc, ◌+◌, ◌≤◌, true, false, not, List, [], ◌∷◌, ◌++◌, length, map, Some, None}
 use Rattle.std.proofs.Common.{Ok, refl, sym, ap, subst, ◌∙◌, arith}
-use Rattle.std.specs.Prelude.{is_some, unwrap_or}
+use Rattle.std.specs.Prelude.{is_some, nat_abs, unwrap_or}
 use Rattle.std.specs.FinSet as finite_set
 use Rattle.std.specs.FinMap as finite_map
 use Rattle.std.specs.List.{AllByRecursion}
@@ -12,12 +12,11 @@ use Rattle.serde_json.specs.Events.{items_len}
 use Rattle.atoms.specs.declared.item.Item.{Item}
 use Rattle.objects.specs.Entries.{State}
 use Rattle.objects.specs.Objects.{kind_of_value}
-use Rattle.objects.specs.declared.kind.Kind.{Kind}
 use Rattle.objects.specs.declared.kind.Kind.TheVariants as kind
 use Rattle.objects.specs.declared.value.Value.{Value}
-use Rattle.objects.specs.declared.value.Value.TheVariants as value
+use Rattle.objects.specs.Contents.{content_length}
+use Rattle.objects.proofs.KindLemmas.{by_content}
 use Rattle.meaning.specs.Words.{Naming, members}
-use Rattle.vocabulary.specs.Words.{kind_text}
 use Rattle.batch.specs.Limits.{entries_in}
 use Rattle.batch.specs.Names.{is_name}
 use Rattle.doc_tree.specs.Asked.{document_shape_asked, element_asked, entry_asked}
@@ -25,55 +24,31 @@ use Rattle.doc_tree.specs.Asked.{kind_in, object_kind, object_name_asked, object
 use Rattle.doc_tree.specs.Asked.{number_start, signed_start, version_in}
 use Rattle.doc_tree.specs.Demand.{check, no_counts}
 use Rattle.doc_tree.specs.Scope.{Table, is_listed}
-use Rattle.vocabulary.specs.Words.{kind_of_text}
 use Rattle.doc_tree.proofs.Checks.{check_met}
 use Rattle.meaning.specs.declared.limits.TheConstants.{MAX_START}
 use Rattle.doc_rules.specs.Limits.{limits_of}
-use Rattle.meaning.specs.WellFormed.{size_of}
+use Rattle.meaning.specs.WellFormed.{content_size, size_of}
 use Rattle.carry.specs.Carried.{first_unfit}
-use Rattle.carry_laws.specs.CarriedData.{carried_data, items_data, object_data, objects_data, pairs_data, start_data}
+use Rattle.carry_laws.specs.CarriedData.{carried_data, content_data, items_data, object_data, objects_data, pairs_data, start_data}
 use Rattle.carry_laws.specs.Carrying.{IsCarriedVersion, object_names}
 use Rattle.carry_laws.proofs.Among.{Apart}
-use Rattle.carry_laws.proofs.Carriable.{IsApart, first_fits}
+use Rattle.carry_laws.proofs.Carriable.{IsApart, IsApartContent, first_fits}
 use Rattle.carry_laws.proofs.ItemsOf.{members_few}
-use Rattle.carry_laws.proofs.Listed.{AreNamedBoth, AreWritable, IsNamed, IsWritable}
+use Rattle.carry_laws.proofs.Listed.{AreNamedBoth, AreWritable, IsNamed, IsWritable, IsWritableContent}
 use Rattle.carry_laws.proofs.Meeting.{AreNew, Counts, Meet, all_new, meet_fewer, meet_none, meet_start, meet_test, new_after, with_new}
 use Rattle.doc_tree.proofs.Demands.{array_start_asked, asked, elements_asked, entries_asked, object_asked, objects_asked, pairs_asked}
-use Rattle.doc_tree.proofs.Demands.{start_asked, met_faultless}
+use Rattle.doc_tree.proofs.Demands.{form_asked, start_asked, met_faultless}
 use Rattle.doc_tree.specs.Places.{first_fault, placed}
 use Rattle.doc_tokens.proofs.PulledDocument.{version_is, version_read}
-use Rattle.carry_laws.proofs.Versions.{each_version, is_version}
-
--- ---- kinds
-
-kind_of_4 : (k : Kind) → kind_of_text 4 (kind_text k) ≡ Some k
-unfolding kind_of_text
-kind_of_4 kind.Account = refl
-kind_of_4 kind.Counter = refl
-kind_of_4 kind.Set = refl
-kind_of_4 kind.Queue = refl
-kind_of_4 kind.Directory = refl
-kind_of_4 kind.Max = refl
-
-kind_of_5 : (k : Kind) → kind_of_text 5 (kind_text k) ≡ Some k
-unfolding kind_of_text
-kind_of_5 kind.Account = refl
-kind_of_5 kind.Counter = refl
-kind_of_5 kind.Set = refl
-kind_of_5 kind.Queue = refl
-kind_of_5 kind.Directory = refl
-kind_of_5 kind.Max = refl
-
--- the word of a kind names it in each version that objects are carried into
-pub kind_back : (version : ℕ) → IsCarriedVersion version → (k : Kind) → kind_of_text version (kind_text k) ≡ Some k
-kind_back = each_version (λ v. (k : Kind) → kind_of_text v (kind_text k) ≡ Some k) kind_of_4 kind_of_5
+use Rattle.carry_laws.proofs.KindWords.{kind_back}
+use Rattle.carry_laws.proofs.Versions.{is_version}
 
 -- ---- starts
 
 pub number_back : (n : ℕ) → n ≤ MAX_START → number_start (number (unsigned n)) ≡ Some n
 number_back n small = rw (lt-ltb n (2 ^ 63) (omega arith)) (rw (le-leb 0 n (omega arith), le-leb n MAX_START small))
 
-pub signed_back : (z : ℤ) → size_of (value.Counter z) ≤ MAX_START → signed_start (number (of_integer z)) ≡ Some z
+pub signed_back : (z : ℤ) → nat_abs z ≤ MAX_START → signed_start (number (of_integer z)) ≡ Some z
 signed_back (pos n) small = rw (lt-ltb n (2 ^ 63) (omega arith)) (rw (le-leb n MAX_START small))
 signed_back (negsuc n) small = rw (le-leb (suc n) MAX_START small)
 
@@ -117,19 +92,19 @@ module _ (version : ℕ) (carried : IsCarriedVersion version) (names : Naming) w
   start_meet : (v : Value) → size_of v ≤ MAX_START → IsWritable version names v → IsApart names v
       → Meet version (entries_in v) (start_asked version (kind_of_value v) (start_data names v))
   unfolding start_asked array_start_asked
-  start_meet (value.Account n) small ok apart = meet_test version 0 (is_some (number_start (start_data names (value.Account n)))) _ []
-      (ap is_some (number_back n small)) (meet_none version)
-  start_meet (value.Counter n) small ok apart = meet_test version 0 (is_some (signed_start (start_data names (value.Counter n)))) _ []
-      (ap is_some (signed_back n small)) (meet_none version)
-  start_meet (value.Set s) small ok apart = meet_fewer version (length (members s)) (finite_set.len s) _ (members_few s)
-      (elements_meet [] (members s) ok apart (all_new (map names.item (members s))))
-  start_meet (value.Queue q) small ok apart = entries_meet q ok
-  start_meet (value.Directory d) small ok apart =
-      let few = finite_map.len-entries d in
+  start_meet v = by_content (λ form c. content_size c ≤ MAX_START → IsWritableContent version names c → IsApartContent names c
+      → Meet version (content_length c) (form_asked version (kind_of_value v) form (content_data names c)))
+      (λ m n small ok apart. meet_test version 0 (is_some (number_start (number (unsigned n)))) _ []
+      (ap is_some (number_back n small)) (meet_none version))
+      (λ n small ok apart. meet_test version 0 (is_some (signed_start (number (of_integer n)))) _ []
+      (ap is_some (signed_back n small)) (meet_none version))
+      (λ s small ok apart. meet_fewer version (length (members s)) (finite_set.len s) _ (members_few s)
+      (elements_meet [] (members s) ok apart (all_new (map names.item (members s)))))
+      (λ q small ok apart. entries_meet q ok)
+      (λ d small ok apart. let few = finite_map.len-entries d in
       meet_fewer version (length (finite_map.entries d)) (finite_map.len d) _ (omega arith)
-      (pairs_meet [] (finite_map.entries d) ok apart (all_new (map names.item (finite_map.keys d))))
-  start_meet (value.Max n) small ok apart = meet_test version 0 (is_some (number_start (start_data names (value.Max n)))) _ []
-      (ap is_some (number_back n small)) (meet_none version)
+      (pairs_meet [] (finite_map.entries d) ok apart (all_new (map names.item (finite_map.keys d)))))
+      v
 
   -- ---- objects
 

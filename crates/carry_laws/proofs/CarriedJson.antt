@@ -6,7 +6,7 @@ use Rattle.std.specs.Fmt.{signed_decimal}
 use Rattle.std.specs.FinMap as finite_map
 use Rattle.std.specs.List.{AllByRecursion}
 use Rattle.json.specs.Json as json
-use Rattle.json.specs.Print.{escape, escape_byte, IsNumber}
+use Rattle.json.specs.Print.{IsNumber}
 use Rattle.json.specs.Text.{content}
 use Rattle.json.proofs.Printed.Numbers.{lex-number}
 use Rattle.json.specs.Lex.{lex, between, token, comma, colon}
@@ -15,17 +15,17 @@ use Rattle.json.proofs.Printed.Decimals.{IsNumber-decimal, IsNumber-signed_decim
 use Rattle.atoms.specs.declared.item.Item.{Item}
 use Rattle.objects.specs.Entries.{State}
 use Rattle.objects.specs.Objects.{kind_of_value}
-use Rattle.objects.specs.declared.kind.Kind.{Kind}
-use Rattle.objects.specs.declared.kind.Kind.TheVariants as kind
 use Rattle.objects.specs.declared.value.Value.{Value}
-use Rattle.objects.specs.declared.value.Value.TheVariants as value
+use Rattle.objects.specs.Contents.{Content, Number, Signed, Set, Queue, Directory, content_of}
 use Rattle.meaning.specs.Words.{Naming, members, joined_by}
 use Rattle.vocabulary.specs.Words.{kind_text}
 use Rattle.batch.specs.Names.{is_name}
-use Rattle.carry.specs.Carried.{carried_text, document_head, item_text, object_text, object_texts, pair_text, quoted, start_text}
+use Rattle.carry.specs.Carried.{carried_text, content_json, document_head, item_text, object_text, object_texts, pair_text, quoted}
+use Rattle.carry.specs.Carried.{start_text}
 use Rattle.doc_rules.specs.declared.limits.TheConstants.{LAST_VERSION}
 use Rattle.carry_laws.proofs.Lexemes.{json_lexemes}
-use Rattle.carry_laws.proofs.Listed.{AreWritable, IsWritable, IsNamed, AreNamedBoth}
+use Rattle.carry_laws.proofs.Listed.{AreWritable, IsWritable, IsWritableContent, IsNamed, AreNamedBoth}
+use Rattle.carry_laws.proofs.KindWords.{kind_named}
 use Rattle.carry_laws.proofs.NamesPlain.{name_plain}
 use Rattle.carry_laws.proofs.Written.{AllWrite, Writes, joined_lexed, list_written, number_written, quoted_lexed, text_written}
 
@@ -40,13 +40,15 @@ abbrev pub pairs_json : Naming → List (Item × Item) → json.Items
 pairs_json names [] = json.no_items
 pairs_json names (pair ∷ pairs) = json.item (pair_json names pair) (pairs_json names pairs)
 
+abbrev pub content_tree : Naming → Content → json.Json
+content_tree names (Number n) = json.number (decimal n)
+content_tree names (Signed n) = json.number (signed_decimal n)
+content_tree names (Set s) = json.array (items_json names (members s))
+content_tree names (Queue q) = json.array (items_json names q)
+content_tree names (Directory d) = json.array (pairs_json names (finite_map.entries d))
+
 abbrev pub start_json : Naming → Value → json.Json
-start_json names (value.Account n) = json.number (decimal n)
-start_json names (value.Counter n) = json.number (signed_decimal n)
-start_json names (value.Set s) = json.array (items_json names (members s))
-start_json names (value.Queue q) = json.array (items_json names q)
-start_json names (value.Directory d) = json.array (pairs_json names (finite_map.entries d))
-start_json names (value.Max n) = json.number (decimal n)
+start_json names v = content_tree names (content_of v)
 
 abbrev pub object_json : Naming → ℕ → Value → json.Json
 object_json names n v = json.object (json.member (codes "name") (json.string (names.object n))
@@ -63,15 +65,6 @@ carried_json version names values = json.object (json.member (codes "ordtx") (js
     (json.member (codes "transactions") (json.array json.no_items) json.no_members)))
 
 -- ---- the text
-
-kind_plain : (k : Kind) → escape (kind_text k) ≡ kind_text k
-unfolding escape_byte
-kind_plain kind.Account = refl
-kind_plain kind.Counter = refl
-kind_plain kind.Set = refl
-kind_plain kind.Queue = refl
-kind_plain kind.Directory = refl
-kind_plain kind.Max = refl
 
 -- the parts of an object's text, and what follows it
 object_parts : (a name b kind c start d rest : List ℕ)
@@ -133,15 +126,14 @@ module _ (version : ℕ) (names : Naming) where
   pairs_written [] named = tt
   pairs_written (pair ∷ pairs) named = (pair_written pair named.0, pairs_written pairs named.1)
 
-  start_written : (v : Value) → IsWritable version names v → Writes (start_text names v) (start_json names v)
-  start_written (value.Account n) ok = number_written (decimal n) (IsNumber-decimal n (omega arith))
-  start_written (value.Counter (pos n)) ok = number_written (decimal n) (IsNumber-decimal n (omega arith))
-  start_written (value.Counter (negsuc n)) ok =
+  content_written : (c : Content) → IsWritableContent version names c → Writes (content_json names c) (content_tree names c)
+  content_written (Number n) ok = number_written (decimal n) (IsNumber-decimal n (omega arith))
+  content_written (Signed (pos n)) ok = number_written (decimal n) (IsNumber-decimal n (omega arith))
+  content_written (Signed (negsuc n)) ok =
       number_written (signed_decimal (negsuc n)) (IsNumber-signed_decimal (negsuc n) (omega arith))
-  start_written (value.Set s) ok = list_written _ _ (items_written (members s) ok)
-  start_written (value.Queue q) ok = list_written _ _ (items_written q ok)
-  start_written (value.Directory d) ok = list_written _ _ (pairs_written (finite_map.entries d) ok)
-  start_written (value.Max n) ok = number_written (decimal n) (IsNumber-decimal n (omega arith))
+  content_written (Set s) ok = list_written _ _ (items_written (members s) ok)
+  content_written (Queue q) ok = list_written _ _ (items_written q ok)
+  content_written (Directory d) ok = list_written _ _ (pairs_written (finite_map.entries d) ok)
 
   pub object_written : (n : ℕ) (v : Value) → is_name version (names.object n) ≡ true → IsWritable version names v
       → Writes (object_text names n v) (object_json names n v)
@@ -154,9 +146,9 @@ module _ (version : ℕ) (names : Naming) where
       ∙ name_key _ ∙ ap (λ ls. token Token.begin_object ∷ token (Token.string (codes "name")) ∷ colon ∷ ls) (
       quoted_lexed name _ (name_plain version name named) ∙ ap (λ ls. token (Token.string name) ∷ ls) (
       kind_key _ ∙ ap (λ ls. comma ∷ token (Token.string (codes "kind")) ∷ colon ∷ ls) (
-      quoted_lexed kind _ (kind_plain (kind_of_value v)) ∙ ap (λ ls. token (Token.string kind) ∷ ls) (
+      quoted_lexed kind _ (name_plain 1 kind (kind_named (kind_of_value v))) ∙ ap (λ ls. token (Token.string kind) ∷ ls) (
       start_key _ ∙ ap (λ ls. comma ∷ token (Token.string (codes "start")) ∷ colon ∷ ls) (
-      start_written v ok (codes "}" ++ rest) refl ∙ ap (λ ls. start ++ ls) (closed rest)
+      content_written (content_of v) ok (codes "}" ++ rest) refl ∙ ap (λ ls. start ++ ls) (closed rest)
       ∙ sym (append_assoc start (token Token.end_object ∷ []) (lex between rest))
       )))))
 

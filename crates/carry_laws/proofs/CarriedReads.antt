@@ -13,15 +13,16 @@ use Rattle.serde_json.proofs.Numbers.{number_of-decimal, number_of-negative}
 use Rattle.atoms.specs.declared.item.Item.{Item}
 use Rattle.objects.specs.Entries.{State}
 use Rattle.objects.specs.declared.value.Value.{Value}
-use Rattle.objects.specs.declared.value.Value.TheVariants as value
+use Rattle.objects.specs.Contents.{Content, Number, Signed, Set, Queue, Directory, content_of}
 use Rattle.meaning.specs.Words.{Naming, members}
 use Rattle.doc_rules.specs.declared.limits.TheConstants.{LAST_VERSION}
 use Rattle.carry.specs.Carried.{carried_text}
-use Rattle.carry_laws.specs.CarriedData.{carried_data, items_data, object_data, objects_data, pairs_data, start_data}
-use Rattle.carry_laws.proofs.CarriedJson.{carried_json, carried_lexed, items_json, object_json, objects_json, pairs_json, start_json}
+use Rattle.carry_laws.specs.CarriedData.{carried_data, content_data, items_data, object_data, objects_data, pairs_data}
+use Rattle.carry_laws.proofs.CarriedJson.{carried_json, carried_lexed, content_tree, items_json, object_json, objects_json, pairs_json}
+use Rattle.carry_laws.proofs.CarriedJson.{start_json}
 use Rattle.carry_laws.proofs.CarriedUtf8.{carried_utf8}
 use Rattle.carry_laws.proofs.Lexemes.{tokens_alone}
-use Rattle.carry_laws.proofs.Listed.{AreWritable, IsWritable}
+use Rattle.carry_laws.proofs.Listed.{AreWritable, IsWritable, IsWritableContent}
 
 -- the version is read
 pub version_number : (version : ℕ) → version ≤ LAST_VERSION → number_of (decimal version) ≡ Some (unsigned version)
@@ -38,18 +39,18 @@ module _ (names : Naming) where
   pairs_read [] = refl
   pairs_read (pair ∷ pairs) = rw (pairs_read pairs)
 
-  start_read : (version : ℕ) (v : Value) → IsWritable version names v → of_json (start_json names v) ≡ Some (start_data names v)
-  start_read version (value.Account n) ok = rw (number_of-decimal n (omega arith))
-  start_read version (value.Counter (pos n)) ok = rw (number_of-decimal n (omega arith))
-  start_read version (value.Counter (negsuc n)) ok = rw (number_of-negative n (omega arith))
-  start_read version (value.Set s) ok = rw (items_read (members s))
-  start_read version (value.Queue q) ok = rw (items_read q)
-  start_read version (value.Directory d) ok = rw (pairs_read (finite_map.entries d))
-  start_read version (value.Max n) ok = rw (number_of-decimal n (omega arith))
+  content_read : (version : ℕ) (c : Content) → IsWritableContent version names c
+      → of_json (content_tree names c) ≡ Some (content_data names c)
+  content_read version (Number n) ok = rw (number_of-decimal n (omega arith))
+  content_read version (Signed (pos n)) ok = rw (number_of-decimal n (omega arith))
+  content_read version (Signed (negsuc n)) ok = rw (number_of-negative n (omega arith))
+  content_read version (Set s) ok = rw (items_read (members s))
+  content_read version (Queue q) ok = rw (items_read q)
+  content_read version (Directory d) ok = rw (pairs_read (finite_map.entries d))
 
   pub object_read : (version n : ℕ) (v : Value) → IsWritable version names v
       → of_json (object_json names n v) ≡ Some (object_data names n v)
-  object_read version n v ok = rw (start_read version v ok)
+  object_read version n v ok = rw (content_read version (content_of v) ok)
 
   objects_read : (version n : ℕ) (values : State) → AreWritable version names n values
       → of_items (objects_json names n values) ≡ Some (objects_data names n values)
@@ -70,13 +71,15 @@ module _ (names : Naming) where
   pairs_flat [] = omega arith
   pairs_flat (pair ∷ pairs) = omega (arith, pairs_flat pairs)
 
+  content_flat : (c : Content) → depth (content_tree names c) ≤ 2
+  content_flat (Number n) = omega arith
+  content_flat (Signed n) = omega arith
+  content_flat (Set s) = omega (arith, items_flat (members s))
+  content_flat (Queue q) = omega (arith, items_flat q)
+  content_flat (Directory d) = omega (arith, pairs_flat (finite_map.entries d))
+
   pub start_flat : (v : Value) → depth (start_json names v) ≤ 2
-  start_flat (value.Account n) = omega arith
-  start_flat (value.Counter n) = omega arith
-  start_flat (value.Set s) = omega (arith, items_flat (members s))
-  start_flat (value.Queue q) = omega (arith, items_flat q)
-  start_flat (value.Directory d) = omega (arith, pairs_flat (finite_map.entries d))
-  start_flat (value.Max n) = omega arith
+  start_flat v = content_flat (content_of v)
 
   objects_flat : (n : ℕ) (values : State) → items_depth (objects_json names n values) ≤ 3
   objects_flat n [] = omega arith

@@ -13,17 +13,17 @@ use Rattle.json.proofs.Printed.Utf8.{IsUtf8-are_ascii}
 use Rattle.atoms.specs.declared.item.Item.{Item}
 use Rattle.objects.specs.Entries.{State}
 use Rattle.objects.specs.Objects.{kind_of_value}
-use Rattle.objects.specs.declared.kind.Kind.{Kind}
-use Rattle.objects.specs.declared.kind.Kind.TheVariants as kind
 use Rattle.objects.specs.declared.value.Value.{Value}
-use Rattle.objects.specs.declared.value.Value.TheVariants as value
+use Rattle.objects.specs.Contents.{Content, Number, Signed, Set, Queue, Directory, content_of}
 use Rattle.meaning.specs.Words.{Naming, members, joined_by}
 use Rattle.vocabulary.specs.Words.{kind_text}
 use Rattle.batch.specs.Names.{is_name, is_name_byte}
 use Rattle.meaning.specs.declared.limits.TheConstants.{MAX_START}
 use Rattle.doc_rules.specs.declared.limits.TheConstants.{LAST_VERSION}
-use Rattle.carry.specs.Carried.{carried_text, document_head, item_text, list_text, object_text, object_texts, pair_text, quoted, start_text}
-use Rattle.carry_laws.proofs.Listed.{AreNamedBoth, AreWritable, IsNamed, IsWritable}
+use Rattle.carry.specs.Carried.{carried_text, content_json, document_head, item_text, list_text, object_text, object_texts, pair_text}
+use Rattle.carry.specs.Carried.{quoted, start_text}
+use Rattle.carry_laws.proofs.Listed.{AreNamedBoth, AreWritable, IsNamed, IsWritable, IsWritableContent}
+use Rattle.carry_laws.proofs.KindWords.{kind_named}
 use Rattle.carry_laws.proofs.NamesPlain.{high_byte}
 
 bytes_ascii : (version : ℕ) (s : List ℕ) → list_all (is_name_byte version) s ≡ true → IsAscii s
@@ -54,14 +54,6 @@ list_utf8 : (texts : List (List ℕ)) → AllByRecursion IsUtf8 texts → IsUtf8
 list_utf8 texts all = between_utf8 (codes "[") (joined_by (codes ", ") texts) (codes "]") (IsUtf8-are_ascii (codes "[") refl)
     (joined_utf8 (codes ", ") (IsUtf8-are_ascii (codes ", ") refl) texts all) (IsUtf8-are_ascii (codes "]") refl)
 
-kind_utf8 : (k : Kind) → IsUtf8 (kind_text k)
-kind_utf8 kind.Account = IsUtf8-are_ascii (codes "account") refl
-kind_utf8 kind.Counter = IsUtf8-are_ascii (codes "counter") refl
-kind_utf8 kind.Set = IsUtf8-are_ascii (codes "set") refl
-kind_utf8 kind.Queue = IsUtf8-are_ascii (codes "queue") refl
-kind_utf8 kind.Directory = IsUtf8-are_ascii (codes "directory") refl
-kind_utf8 kind.Max = IsUtf8-are_ascii (codes "max") refl
-
 number_utf8 : (n : ℕ) → n ≤ MAX_START → IsUtf8 (decimal n)
 number_utf8 n small = IsUtf8-from_ascii (decimal n) (IsAscii-decimal n (omega arith))
 
@@ -79,14 +71,13 @@ module _ (version : ℕ) (names : Naming) where
     pairs_utf8 pairs named.1,
   )
 
-  start_utf8 : (v : Value) → IsWritable version names v → IsUtf8 (start_text names v)
-  start_utf8 (value.Account n) ok = number_utf8 n ok
-  start_utf8 (value.Counter (pos n)) ok = number_utf8 n ok
-  start_utf8 (value.Counter (negsuc n)) ok = IsUtf8-from_ascii (signed_decimal (negsuc n)) (IsAscii-signed (negsuc n) (omega arith))
-  start_utf8 (value.Set s) ok = list_utf8 (map (item_text names) (members s)) (items_utf8 (members s) ok)
-  start_utf8 (value.Queue q) ok = list_utf8 (map (item_text names) q) (items_utf8 q ok)
-  start_utf8 (value.Directory d) ok = list_utf8 (map (pair_text names) (finite_map.entries d)) (pairs_utf8 (finite_map.entries d) ok)
-  start_utf8 (value.Max n) ok = number_utf8 n ok
+  content_utf8 : (c : Content) → IsWritableContent version names c → IsUtf8 (content_json names c)
+  content_utf8 (Number n) ok = number_utf8 n ok
+  content_utf8 (Signed (pos n)) ok = number_utf8 n ok
+  content_utf8 (Signed (negsuc n)) ok = IsUtf8-from_ascii (signed_decimal (negsuc n)) (IsAscii-signed (negsuc n) (omega arith))
+  content_utf8 (Set s) ok = list_utf8 (map (item_text names) (members s)) (items_utf8 (members s) ok)
+  content_utf8 (Queue q) ok = list_utf8 (map (item_text names) q) (items_utf8 q ok)
+  content_utf8 (Directory d) ok = list_utf8 (map (pair_text names) (finite_map.entries d)) (pairs_utf8 (finite_map.entries d) ok)
 
   object_utf8 : (n : ℕ) (v : Value) → is_name version (names.object n) ≡ true → IsWritable version names v
       → IsUtf8 (object_text names n v)
@@ -100,8 +91,8 @@ module _ (version : ℕ) (names : Naming) where
       (between_utf8 (first ++ name ++ second) kind third
       (between_utf8 first name second (IsUtf8-are_ascii first refl)
       (quoted_utf8 (names.object n) (name_utf8 version (names.object n) named)) (IsUtf8-are_ascii second refl))
-      (quoted_utf8 (kind_text (kind_of_value v)) (kind_utf8 (kind_of_value v))) (IsUtf8-are_ascii third refl))
-      (start_utf8 v ok) (IsUtf8-are_ascii (codes "}") refl)
+      (quoted_utf8 (kind_text (kind_of_value v)) (name_utf8 1 _ (kind_named (kind_of_value v)))) (IsUtf8-are_ascii third refl))
+      (content_utf8 (content_of v) ok) (IsUtf8-are_ascii (codes "}") refl)
 
   objects_utf8 : (n : ℕ) (values : State) → AreWritable version names n values → AllByRecursion IsUtf8 (object_texts names n values)
   objects_utf8 n [] ok = tt

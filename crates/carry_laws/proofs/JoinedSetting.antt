@@ -1,7 +1,7 @@
 -- The objects of a next document with carried ones: their names are apart, and they have those of the next at their places.
-use Rattle.std.proofs.Common.{◌≡◌, ◌≢◌, ℕ, zero, suc, ◌+◌, ◌≤◌, ◌&&◌, ◌||◌, inl, inr, Bool, true, false, cond, List, [], ◌∷◌, ◌++◌}
+use Rattle.std.proofs.Common.{◌≡◌, ◌≢◌, ℕ, zero, suc, ◌+◌, ◌≤◌, ◌||◌, inl, inr, Bool, true, false, cond, List, [], ◌∷◌, ◌++◌}
 use Rattle.std.proofs.Common.{length, map, get_or, Option, None, Some, refl, sym, ap, subst, ◌∙◌, arith, length-append}
-use Rattle.std.specs.Prelude.{codes, nat_le, nat_lt, option_and_then, option_map, slice_get, unwrap_or}
+use Rattle.std.specs.Prelude.{nat_le, nat_lt, option_and_then, option_map, slice_get, unwrap_or}
 use Rattle.std.specs.List.{AllByRecursion, position_or_len}
 use Rattle.std.specs.Str.{bytes_eq}
 use Rattle.std.proofs.lemmas.Bool.{le-leb, leb-false, leb-true, lt-ltb, ltb-true}
@@ -9,14 +9,10 @@ use Rattle.std.proofs.lemmas.Slice.Eq.{bytes_eq-Decides}
 use Rattle.objects.specs.Entries.{State, kinds}
 use Rattle.objects.specs.Objects.{kind_of_value}
 use Rattle.objects.specs.declared.kind.Kind.{Kind}
-use Rattle.objects.specs.declared.kind.Kind.TheVariants as kind
 use Rattle.objects.specs.declared.value.Value.{Value}
 use Rattle.vocabulary.specs.Words.{kind_of_text, kind_text}
 use Rattle.vocabulary.specs.Verbs.{verb_of_text}
-use Rattle.vocabulary.specs.declared.verb.ItemVerb.TheVariants.{Enq}
-use Rattle.vocabulary.specs.declared.verb.LoneVerb.TheVariants.{Deq, Length}
 use Rattle.vocabulary.specs.declared.verb.Verb.{Verb}
-use Rattle.vocabulary.specs.declared.verb.Verb.TheVariants.{OfItem, Alone}
 use Rattle.batch.specs.Names.{names_of}
 use Rattle.doc_tree.specs.Asked.{kinds_of}
 use Rattle.doc_rules.specs.declared.limits.TheConstants.{LAST_VERSION}
@@ -29,13 +25,13 @@ use Rattle.carry.specs.declared.document.TheConstants.{FIRST_CARRIED}
 use Rattle.carry_laws.specs.Carrying.{IsCarriedVersion, object_names}
 use Rattle.carry_laws.specs.Joined.{starts_data}
 use Rattle.carry_laws.proofs.Among.{Among, Apart, each_of, of_each}
-use Rattle.carry_laws.proofs.CarriedFaultless.{kind_back, kind_is}
+use Rattle.carry_laws.proofs.CarriedFaultless.{kind_is}
+use Rattle.carry_laws.proofs.KindWords.{carried_verbs, kind_back, verbs_before}
 use Rattle.carry_laws.proofs.NamedTexts.{names_from}
 use Rattle.doc_merge.proofs.NumberedTexts.{first_listed, listed_at, listed_kept}
 use Rattle.carry_laws.proofs.LaterNames.{name_later}
 use Rattle.carry_laws.proofs.LimitsSince.{limits_since}
 use Rattle.carry_laws.proofs.OtherSetting.{Declares}
-use Rattle.carry_laws.proofs.Versions.{each_version}
 
 -- ---- names
 
@@ -218,65 +214,6 @@ place_kept name table more listed =
     ap (λ n. cond (nat_lt n (length (table ++ more))) (Some n) None) same
     ∙ ap (λ b. cond b (Some (position_or_len (bytes_eq name) table)) None) (lt-ltb _ _ (omega (arith, size, at)))
     ∙ sym (found name table listed)
-
--- the verb of a queue that one of three tests finds
-abbrev queue_verb : Bool → Bool → Bool → Option Verb
-queue_verb a b c = cond (a && true) (Some (OfItem Enq)) (cond (b && true) (Some (Alone Deq)) (cond c (Some (Alone Length)) None))
-
--- the verbs of a version are those of the first that objects are carried into
-verbs_before : (version : ℕ) → 1 ≤ version → version ≤ FIRST_CARRIED → (k : Kind) (word : List ℕ) (v : Verb)
-    → verb_of_text version k word ≡ Some v → verb_of_text FIRST_CARRIED k word ≡ Some v
-unfolding verb_of_text
-verbs_before zero above below k word v is = absurd (omega arith)
-verbs_before (suc zero) above below kind.Queue word v is =
-    by (bytes_eq (codes "enq") word) (bytes_eq (codes "deq") word) (bytes_eq (codes "length") word) is
-  where
-    by : (a b c : Bool) → queue_verb a b (c && false) ≡ Some v → queue_verb a b (c && true) ≡ Some v
-    by true b c h = h
-    by false true c h = h
-    by false false true h = cc
-    by false false false h = cc
-verbs_before (suc zero) above below kind.Account word v is = is
-verbs_before (suc zero) above below kind.Counter word v is = is
-verbs_before (suc zero) above below kind.Set word v is = is
-verbs_before (suc zero) above below kind.Directory word v is = is
-verbs_before (suc zero) above below kind.Max word v is = is
-verbs_before (suc (suc zero)) above below k word v is = since_two k is
-  where
-    since_two : (k : Kind) → verb_of_text 2 k word ≡ Some v → verb_of_text FIRST_CARRIED k word ≡ Some v
-    since_two kind.Account h = h
-    since_two kind.Counter h = h
-    since_two kind.Set h = h
-    since_two kind.Queue h = h
-    since_two kind.Directory h = h
-    since_two kind.Max h = h
-verbs_before (suc (suc (suc zero))) above below k word v is = since_three k is
-  where
-    since_three : (k : Kind) → verb_of_text 3 k word ≡ Some v → verb_of_text FIRST_CARRIED k word ≡ Some v
-    since_three kind.Account h = h
-    since_three kind.Counter h = h
-    since_three kind.Set h = h
-    since_three kind.Queue h = h
-    since_three kind.Directory h = h
-    since_three kind.Max h = h
-verbs_before (suc (suc (suc (suc zero)))) above below k word v is = is
-verbs_before (suc (suc (suc (suc (suc n))))) above below k word v is = absurd (omega arith)
-
--- these are those of the last
-last_verbs : (k : Kind) (word : List ℕ) → verb_of_text LAST_VERSION k word ≡ verb_of_text FIRST_CARRIED k word
-unfolding verb_of_text
-last_verbs kind.Account word = refl
-last_verbs kind.Counter word = refl
-last_verbs kind.Set word = refl
-last_verbs kind.Queue word = refl
-last_verbs kind.Directory word = refl
-last_verbs kind.Max word = refl
-
--- and so of each that objects are carried into
-carried_verbs : (version : ℕ) → IsCarriedVersion version → (k : Kind) (word : List ℕ)
-    → verb_of_text version k word ≡ verb_of_text FIRST_CARRIED k word
-carried_verbs = each_version (λ v. (k : Kind) (word : List ℕ) → verb_of_text v k word ≡ verb_of_text FIRST_CARRIED k word)
-    (λ k word. refl) last_verbs
 
 -- so each version has the verbs of those before
 verbs_later : (old new : ℕ) → 1 ≤ old → old ≤ new → IsCarriedVersion new → (k : Kind) (word : List ℕ) (v : Verb)

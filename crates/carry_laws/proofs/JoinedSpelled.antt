@@ -54,7 +54,7 @@ module _ (version : ℕ) (carried : IsCarriedVersion version) where
         grows = grows_both numbers.items spelled.1.items last.items here.grows rest.grows;
         few = omega (arith, first_few, rest_few);
         same = λ texts more few. (
-          here.same texts (grows_both spelled.1.items last.items texts.items rest.grows more) few,
+          (here.kind, here.content texts (grows_both spelled.1.items last.items texts.items rest.grows more) few),
           rest.same texts more few,
         );
       }

@@ -4,6 +4,7 @@ pub mod NamesPlain
 pub mod LaterNames
 pub mod Listed
 pub mod Versions
+pub mod KindWords
 pub mod CarriedJson
 pub mod CarriedUtf8
 pub mod CarriedReads

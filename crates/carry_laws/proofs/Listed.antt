@@ -6,11 +6,11 @@ use Rattle.std.specs.List.{AllByRecursion}
 use Rattle.atoms.specs.declared.item.Item.{Item}
 use Rattle.objects.specs.Entries.{State}
 use Rattle.objects.specs.declared.value.Value.{Value}
-use Rattle.objects.specs.declared.value.Value.TheVariants as value
+use Rattle.objects.specs.Contents.{Content, Set, Queue, Directory, content_of}
 use Rattle.meaning.specs.Words.{Naming, members}
 use Rattle.batch.specs.Names.{is_name}
 use Rattle.meaning.specs.declared.limits.TheConstants.{MAX_START}
-use Rattle.meaning.specs.WellFormed.{size_of}
+use Rattle.meaning.specs.WellFormed.{content_size}
 
 -- an item that has a name of a version
 abbrev pub IsNamed : ℕ → Naming → Item → Type 0
@@ -19,12 +19,15 @@ IsNamed version names x = is_name version (names.item x) ≡ true
 abbrev pub AreNamedBoth : ℕ → Naming → Item × Item → Type 0
 AreNamedBoth version names pair = IsNamed version names pair.0 × IsNamed version names pair.1
 
--- a value whose number is small enough, or whose items have names
+-- a number that is small enough, or items that have names
+abbrev pub IsWritableContent : ℕ → Naming → Content → Type 0
+IsWritableContent version names (Set s) = AllByRecursion (IsNamed version names) (members s)
+IsWritableContent version names (Queue q) = AllByRecursion (IsNamed version names) q
+IsWritableContent version names (Directory d) = AllByRecursion (AreNamedBoth version names) (finite_map.entries d)
+IsWritableContent version names c = content_size c ≤ MAX_START
+
 abbrev pub IsWritable : ℕ → Naming → Value → Type 0
-IsWritable version names (value.Set s) = AllByRecursion (IsNamed version names) (members s)
-IsWritable version names (value.Queue q) = AllByRecursion (IsNamed version names) q
-IsWritable version names (value.Directory d) = AllByRecursion (AreNamedBoth version names) (finite_map.entries d)
-IsWritable version names v = size_of v ≤ MAX_START
+IsWritable version names v = IsWritableContent version names (content_of v)
 
 -- the objects from place n on
 abbrev pub AreWritable : ℕ → Naming → ℕ → State → Type 0

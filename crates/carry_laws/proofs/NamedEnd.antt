@@ -1,13 +1,17 @@
 -- Objects end with items that have texts, where they start so and the transactions name no others.
-use Rattle.std.proofs.Common.{◌≡◌, ℕ, zero, suc, Bool, true, false, cond, List, [], ◌∷◌, ◌++◌, Option, Some, None, refl, sym, subst, arith}
+use Rattle.std.proofs.Common.{◌≡◌, ◌∙◌, ap, inl, inr, ℕ, zero, suc, Bool, true, false, cond, List, [], ◌∷◌, ◌++◌, Option, Some, None}
+use Rattle.std.proofs.Common.{refl, sym, subst, arith}
 use Rattle.std.specs.Prelude.{slice_index_or}
 use Rattle.objects.specs.Entries.{State, after_call, reply_at}
-use Rattle.objects.specs.Objects.{value_after}
+use Rattle.objects.specs.Objects.{kind_of_call, kind_of_value, value_after}
+use Rattle.objects.specs.declared.kind.Kind.TheVariants as kind
+use Rattle.objects.proofs.CommuteLemmas.{one_kind}
 use Rattle.objects.specs.declared.call.Call.{Call}
 use Rattle.objects.specs.declared.call.Call.TheVariants as to
 use Rattle.objects.specs.declared.call.Reply.{Reply}
 use Rattle.objects.specs.declared.value.Value.{Value}
 use Rattle.objects.specs.declared.value.Value.TheVariants as value
+use Rattle.vocabulary.proofs.Responses.{item_reply}
 use Rattle.vocabulary.proofs.Verbs.{directory_items, queue_items, set_items}
 use Rattle.meaning.specs.declared.end.End.TheVariants.{Ended, Aborted}
 use Rattle.meaning.specs.declared.held.Held.{Held}
@@ -28,7 +32,8 @@ use Rattle.atoms.specs.declared.queue.QueueCall.TheVariants as queue
 use Rattle.atoms.specs.declared.directory.DirectoryCall.{DirectoryCall}
 use Rattle.atoms.specs.declared.directory.DirectoryCall.TheVariants as directory
 use Rattle.atoms.specs.declared.directory.DirectoryReply.{DirectoryReply}
-use Rattle.atoms.specs.declared.directory.DirectoryReply.TheVariants.{Bound, Taken as was_taken, Gone, Missing}
+use Rattle.atoms.specs.declared.directory.DirectoryReply.TheVariants.{Bound, Taken as was_taken, Gone, Missing, Found}
+use Rattle.atoms.specs.declared.queue.QueueReply.TheVariants.{Got}
 use Rattle.atoms.specs.Directory.{Directories, directory_reply, found_or_missing}
 use Rattle.atoms.specs.Queue.{queue_reply, front_of}
 use Rattle.objects.specs.declared.call.Reply.TheVariants as of
@@ -59,10 +64,10 @@ module _ (texts : Texts) where
   value_named : (v : Value) (c : Call) → IsNamedValue texts v → IsNamedCall texts c → IsNamedValue texts (value_after v c)
   value_named (value.Account n) (to.Account c) had named = tt
   value_named (value.Counter n) (to.Counter c) had named = tt
+  value_named (value.Max n) (to.Max c) had named = tt
   value_named (value.Set s) (to.Set c) had named = set_items (HasText texts) s c had named
   value_named (value.Queue q) (to.Queue c) had named = queue_items (HasText texts) q c had named
   value_named (value.Directory d) (to.Directory c) had named = directory_items (HasText texts) d c had named
-  value_named (value.Max n) (to.Max c) had named = tt
   value_named v c had named = had
 
   after_named : (state : State) (object : ℕ) (call : Call) → AllNamedValues texts state → IsNamedCall texts call
@@ -105,17 +110,26 @@ module _ (texts : Texts) where
       either_named (is_some (finite_map.get d k)) Gone Missing (λ x is. absurd cc) (λ x is. absurd cc)
   directory_named d (directory.Lookup k) had = found_named (finite_map.get d k) (λ x is. (had k x is).1)
 
-  given : (made reply : Reply) → Some made ≡ Some reply → IsNamedReply made → IsNamedReply reply
-  given made reply is named = let same : made ≡ reply = cc in subst IsNamedReply same named
+  -- an item that a queue gave, and one that a directory found
+  got_named : (v : Value) (c : Call) (x : Item) → IsNamedValue texts v → value_reply v c ≡ Some (of.Queue (Got x))
+      → kind.Queue ≡ kind_of_value v → kind_of_call c ≡ kind_of_value v → HasText texts x
+  got_named (value.Queue q) (to.Queue c) x had is of_kind calls =
+      let same : of.Queue (queue_reply q c) ≡ of.Queue (Got x) = cc in queue_named q c had x (ap reply_item same)
+  got_named v c x had is of_kind calls = absurd cc
+
+  lookup_named : (v : Value) (c : Call) (x : Item) → IsNamedValue texts v → value_reply v c ≡ Some (of.Directory (Found x))
+      → kind.Directory ≡ kind_of_value v → kind_of_call c ≡ kind_of_value v → HasText texts x
+  lookup_named (value.Directory d) (to.Directory c) x had is of_kind calls =
+      let same : of.Directory (directory_reply d c) ≡ of.Directory (Found x) = cc in directory_named d c had x (ap reply_item same)
+  lookup_named v c x had is of_kind calls = absurd cc
 
   reply_named : (v : Value) (c : Call) (reply : Reply) → IsNamedValue texts v → value_reply v c ≡ Some reply → IsNamedReply reply
-  reply_named (value.Account n) (to.Account c) reply had is = given _ reply is (λ x none. absurd cc)
-  reply_named (value.Counter n) (to.Counter c) reply had is = given _ reply is (λ x none. absurd cc)
-  reply_named (value.Set s) (to.Set c) reply had is = given _ reply is (λ x none. absurd cc)
-  reply_named (value.Queue q) (to.Queue c) reply had is = given _ reply is (queue_named q c had)
-  reply_named (value.Directory d) (to.Directory c) reply had is = given _ reply is (directory_named d c had)
-  reply_named (value.Max n) (to.Max c) reply had is = given _ reply is (λ x none. absurd cc)
-  reply_named v c reply had is = absurd cc
+  reply_named v c reply had is x some = elim (item_reply reply x some) [
+    | inl got ↦ let one = one_kind v c (of.Queue (Got x)) (is ∙ ap Some got) in
+        got_named v c x had (is ∙ ap Some got) one.reply one.call
+    | inr found ↦ let one = one_kind v c (of.Directory (Found x)) (is ∙ ap Some found) in
+        lookup_named v c x had (is ∙ ap Some found) one.reply one.call
+  ]
 
   reply_at_named : (state : State) (object : ℕ) (call : Call) (reply : Reply) → AllNamedValues texts state
       → reply_at state object call ≡ Some reply → IsNamedReply reply

@@ -63,13 +63,11 @@ names_from texts n (v ∷ values) size =
 -- ---- items
 
 pub value_has_text : (texts : Texts) (v : Value) (x : Item) → IsNamedValue texts v → HasItem v x → HasText texts x
-value_has_text texts (value.Account n) x named has = absurd has
-value_has_text texts (value.Counter n) x named has = absurd has
 value_has_text texts (value.Set s) x named has = named x has
 value_has_text texts (value.Queue q) x named has = All-contains (HasText texts) q x named has
 value_has_text texts (value.Directory d) x named (k, y, bound, inl is) = subst (HasText texts) (sym is) (named k y bound).0
 value_has_text texts (value.Directory d) x named (k, y, bound, inr is) = subst (HasText texts) (sym is) (named k y bound).1
-value_has_text texts (value.Max n) x named has = absurd has
+value_has_text texts v x named has = absurd has
 
 has_text : (texts : Texts) (values : State) (x : Item) → AllNamedValues texts values → SomeHasItem values x → HasText texts x
 has_text texts [] x named has = absurd has

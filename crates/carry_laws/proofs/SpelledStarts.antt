@@ -1,25 +1,33 @@
 -- What the starts of objects as they are spell: the same values, whose items are numbered anew.
-use Rattle.std.proofs.Common.{◌≡◌, true, ℕ, ◌+◌, ◌*◌, ◌≤◌, List, [], ◌∷◌, map, length, Some, inl, inr, refl, sym, ap, ap₂, subst, ◌∙◌}
+use Rattle.std.proofs.Common.{◌≡◌, true, ℕ, ℤ, ◌+◌, ◌*◌, ◌≤◌, List, [], ◌∷◌, map, length, Some, inl, inr, refl, sym, ap, ap₂, subst, ◌∙◌}
 use Rattle.std.proofs.Common.{arith}
 use Rattle.std.specs.Prelude.{unwrap_or, pos}
 use Rattle.std.specs.FinSet as finite_set
 use Rattle.std.specs.FinMap as finite_map
+use Rattle.serde_json.specs.Data.{number, unsigned}
+use Rattle.atoms.specs.Directory.{Directories}
 use Rattle.atoms.specs.Item.{item_cmp}
+use Rattle.atoms.specs.ItemSet.{Sets}
 use Rattle.atoms.specs.declared.item.Item.{Item}
 use Rattle.objects.specs.Objects.{kind_of_value}
 use Rattle.objects.specs.declared.value.Value.{Value}
-use Rattle.objects.specs.declared.value.Value.TheVariants as value
+use Rattle.objects.specs.declared.kind.Kind.{Kind}
+use Rattle.objects.specs.declared.kind.NumberKind.{NumberKind}
+use Rattle.objects.specs.declared.kind.ValueForm.{ValueForm}
+use Rattle.objects.specs.declared.kind.ValueForm.TheVariants as value_form
+use Rattle.objects.specs.Contents.{Content, Number, Signed, Set, Queue, Directory, content_length, content_of, form_of}
+use Rattle.objects.proofs.KindLemmas.{by_content, number_held, number_of_kind, only_directories, only_queues, only_sets, only_signed}
 use Rattle.meaning.specs.Words.{Naming, members}
-use Rattle.batch.specs.Limits.{entries_in}
 use Rattle.batch.specs.Names.{Texts, names_of}
+use Rattle.doc_tree.specs.Asked.{number_start}
 use Rattle.doc_tree.specs.Scope.{Numbers, with_item}
-use Rattle.doc_tree.specs.Spelled.{bind_all, entries_of, or_zero, pairs_of, put_all, start_of}
-use Rattle.meaning.specs.WellFormed.{size_of}
+use Rattle.doc_tree.specs.Spelled.{bind_all, entries_of, or_zero, pairs_of, put_all, form_start, start_of}
+use Rattle.meaning.specs.WellFormed.{content_size, size_of}
 use Rattle.meaning.specs.declared.limits.TheConstants.{MAX_START}
-use Rattle.carry_laws.specs.CarriedData.{items_data, pairs_data, start_data}
-use Rattle.carry_laws.specs.Same.{IsSame}
+use Rattle.carry_laws.specs.CarriedData.{content_data, items_data, pairs_data, start_data}
+use Rattle.carry_laws.specs.Same.{IsSameContent}
 use Rattle.carry_laws.proofs.Among.{Among, Apart, among_from_map, among_map, apart_from_map}
-use Rattle.carry_laws.proofs.Carriable.{IsApart}
+use Rattle.carry_laws.proofs.Carriable.{IsApart, IsApartContent}
 use Rattle.carry_laws.proofs.CarriedFaultless.{number_back, signed_back}
 use Rattle.carry_laws.proofs.ItemsOf.{among_bound, among_contained, bound_among, contained_among, members_few}
 use Rattle.doc_merge.proofs.NumberedTexts.{Grows, grows_both, grows_none, grows_text, item_named, one_more}
@@ -85,7 +93,7 @@ over f g xs ys same b x at is = among_from_map g ys b (subst (Among b) same (sub
 -- ---- sets
 
 set_same : (old new : Naming) (s : finite_set.FinSet item_cmp) (ys : List Item) → map new.item ys ≡ map old.item (members s)
-    → IsSame old (value.Set s) new (value.Set (put_all finite_set.empty ys))
+    → IsSameContent old (Set s) new (Set (put_all finite_set.empty ys))
 set_same old new s ys same name = (
   λ has. let found = over old.item new.item (members s) ys (sym same) name has.0 (contained_among s has.0 has.1) has.2 in
       (found.0, put_there ys finite_set.empty found.0 found.1, found.2),
@@ -124,7 +132,7 @@ only_bound fs k x is = elim (had_or_bound fs finite_map.empty k x is) [
 
 directory_same : (old new : Naming) (d : finite_map.FinMap item_cmp Item) (fs : List (Item × Item))
     → map (both new.item) fs ≡ map (both old.item) (finite_map.entries d) → Apart (map old.item (finite_map.keys d))
-    → IsSame old (value.Directory d) new (value.Directory (bind_all finite_map.empty fs))
+    → IsSameContent old (Directory d) new (Directory (bind_all finite_map.empty fs))
 directory_same old new d fs same apart key name = (
   λ has.
       let k = has.0 in let x = has.1 in
@@ -141,50 +149,82 @@ directory_same old new d fs same apart key name = (
 
 -- ---- values
 
--- By later tables the value is the same. So many texts are new at most.
-pub record SpellsValue (names : Naming) (v : Value) (before : Numbers) (spelled : Value × Numbers) : Type 0 where
+-- By later tables the value is of the kind and has the same content. So many texts are new at most.
+pub record SpellsContent (names : Naming) (k : Kind) (c : Content) (before : Numbers) (spelled : Value × Numbers) : Type 0 where
   pub grows : Grows before.items spelled.1.items
-  pub few : length spelled.1.items ≤ length before.items + 2 * entries_in v
-  pub same : (texts : Texts) → Grows spelled.1.items texts.items → length texts.items ≤ 4294967295
-      → IsSame names v (names_of texts) spelled.0
+  pub few : length spelled.1.items ≤ length before.items + 2 * content_length c
+  pub kind : k ≡ kind_of_value spelled.0
+  pub content : (texts : Texts) → Grows spelled.1.items texts.items → length texts.items ≤ 4294967295
+      → IsSameContent names c (names_of texts) (content_of spelled.0)
 
-pub value_spelled : (names : Naming) (v : Value) (numbers : Numbers) → size_of v ≤ MAX_START → IsApart names v
-    → SpellsValue names v numbers (start_of (kind_of_value v) numbers (start_data names v))
-unfolding start_of
-value_spelled names (value.Account n) numbers small apart = record {
+abbrev pub SpellsValue : Naming → Value → Numbers → Value × Numbers → Type 0
+SpellsValue names v before spelled = SpellsContent names (kind_of_value v) (content_of v) before spelled
+
+-- what a start of a form spells
+abbrev Spelled : Naming → Kind → Numbers → ValueForm → Content → Type 0
+Spelled names k numbers form c = form_of k ≡ form → content_size c ≤ MAX_START → IsApartContent names c
+    → SpellsContent names k c numbers (form_start form numbers (content_data names c))
+
+number_spelled : (names : Naming) (k : Kind) (numbers : Numbers) (m : NumberKind) (n : ℕ)
+    → Spelled names k numbers (value_form.Number m) (Number n)
+number_spelled names k numbers m n is small apart =
+    let read = or_zero (number_start (number (unsigned n))) in
+    record {
+      grows = grows_none numbers.items;
+      few = omega arith;
+      kind = sym (number_of_kind k m read is);
+      content = λ texts more few. subst (IsSameContent names (Number n) (names_of texts)) (sym (number_held m read))
+          (sym (ap or_zero (number_back n small)));
+    }
+
+signed_spelled : (names : Naming) (k : Kind) (numbers : Numbers) (z : ℤ) → Spelled names k numbers value_form.Signed (Signed z)
+signed_spelled names k numbers z is small apart = record {
   grows = grows_none numbers.items;
   few = omega arith;
-  same = λ texts more few. sym (ap or_zero (number_back n small));
+  kind = only_signed k is;
+  content = λ texts more few. sym (ap (λ o. unwrap_or o (pos 0)) (signed_back z small));
 }
-value_spelled names (value.Counter z) numbers small apart = record {
-  grows = grows_none numbers.items;
-  few = omega arith;
-  same = λ texts more few. sym (ap (λ o. unwrap_or o (pos 0)) (signed_back z small));
-}
-value_spelled names (value.Set s) numbers small apart =
+
+set_spelled : (names : Naming) (k : Kind) (numbers : Numbers) (s : Sets) → Spelled names k numbers value_form.Set (Set s)
+set_spelled names k numbers s is small apart =
     let items = items_spelled names (members s) numbers in
     let fewer = items.few in
     record {
       grows = items.grows;
       few = omega (arith, fewer, members_few s);
-      same = λ texts more few. set_same names (names_of texts) s (entries_of numbers (items_data names (members s))).0
+      kind = only_sets k is;
+      content = λ texts more few. set_same names (names_of texts) s (entries_of numbers (items_data names (members s))).0
           (items.shows texts more few);
     }
-value_spelled names (value.Queue q) numbers small apart =
+
+queue_spelled : (names : Naming) (k : Kind) (numbers : Numbers) (q : List Item) → Spelled names k numbers value_form.Queue (Queue q)
+queue_spelled names k numbers q is small apart =
     let items = items_spelled names q numbers in
     let fewer = items.few in
-    record { grows = items.grows; few = omega (arith, fewer); same = λ texts more few. sym (items.shows texts more few) }
-value_spelled names (value.Directory d) numbers small apart =
+    record {
+      grows = items.grows;
+      few = omega (arith, fewer);
+      kind = only_queues k is;
+      content = λ texts more few. sym (items.shows texts more few);
+    }
+
+directory_spelled : (names : Naming) (k : Kind) (numbers : Numbers) (d : Directories)
+    → Spelled names k numbers value_form.Directory (Directory d)
+directory_spelled names k numbers d is small apart =
     let pairs = pairs_spelled names (finite_map.entries d) numbers in
     let fewer = pairs.few in
     record {
       grows = pairs.grows;
       few = omega (arith, fewer, finite_map.len-entries d);
-      same = λ texts more few. directory_same names (names_of texts) d (pairs_of numbers (pairs_data names (finite_map.entries d))).0
+      kind = only_directories k is;
+      content = λ texts more few. directory_same names (names_of texts) d (pairs_of numbers (pairs_data names (finite_map.entries d))).0
           (pairs.shows texts more few) apart;
     }
-value_spelled names (value.Max n) numbers small apart = record {
-  grows = grows_none numbers.items;
-  few = omega arith;
-  same = λ texts more few. sym (ap or_zero (number_back n small));
-}
+
+pub value_spelled : (names : Naming) (v : Value) (numbers : Numbers) → size_of v ≤ MAX_START → IsApart names v
+    → SpellsValue names v numbers (start_of (kind_of_value v) numbers (start_data names v))
+unfolding start_of
+value_spelled names v numbers =
+    let k = kind_of_value v in
+    by_content (Spelled names k numbers) (number_spelled names k numbers) (signed_spelled names k numbers) (set_spelled names k numbers)
+    (queue_spelled names k numbers) (directory_spelled names k numbers) v refl

@@ -4,12 +4,15 @@ use Rattle.std.specs.Prelude.{codes}
 use Rattle.serde_json.specs.Data.{Data, Items, no_items, item}
 use Rattle.serde_json.specs.Find.{as_array}
 use Rattle.objects.specs.declared.kind.Kind.{Kind}
-use Rattle.objects.specs.declared.kind.Kind.TheVariants as kind
+use Rattle.objects.specs.declared.kind.ValueForm.{ValueForm}
+use Rattle.objects.specs.declared.kind.ValueForm.TheVariants as value_form
+use Rattle.objects.specs.Contents.{form_of}
 use Rattle.doc_tree.specs.Asked.{element_asked, entry_asked, key_of, kind_in, object_name, object_name_asked, object_shape_asked}
 use Rattle.doc_tree.specs.Asked.{or_no_items, pair_asked, part, text_of, value_of}
 use Rattle.doc_tree.specs.Scope.{Numbers, Table, with_item, with_text}
-use Rattle.doc_tree.specs.Spelled.{entries_of, pair_of, pairs_of, start_of, starts_of}
-use Rattle.doc_tree.proofs.Demands.{array_start_asked, elements_asked, entries_asked, object_asked, objects_asked, pairs_asked, start_asked}
+use Rattle.doc_tree.specs.Spelled.{entries_of, form_start, pair_of, pairs_of, start_of, starts_of}
+use Rattle.doc_tree.proofs.Demands.{array_start_asked, elements_asked, entries_asked, form_asked, object_asked, objects_asked}
+use Rattle.doc_tree.proofs.Demands.{pairs_asked, start_asked}
 use Rattle.doc_tree.proofs.MetLemmas.{What, count, count-append}
 use Rattle.doc_merge.proofs.Growing.{Longer, longer_item, longer_none, longer_on}
 
@@ -52,36 +55,39 @@ pairs_longer version earlier numbers (item d ds) =
     (longer_on 1 1 2 numbers between next (omega arith) (longer_item (key_of d) numbers) (longer_item (value_of d) between))
     (pairs_longer version after next ds)
 
-set_longer : (version : ℕ) (numbers : Numbers) (o : Option Items)
-    → Longer (twice (count What.starts (array_start_asked kind.Set (elements_asked version []) o))) numbers
+set_longer : (version : ℕ) (k : Kind) (numbers : Numbers) (o : Option Items)
+    → Longer (twice (count What.starts (array_start_asked k (elements_asked version []) o))) numbers
     (entries_of numbers (or_no_items o)).1
 unfolding array_start_asked
-set_longer version numbers None = longer_none 0 numbers
-set_longer version numbers (Some ds) = elements_longer version [] numbers ds
+set_longer version k numbers None = longer_none 0 numbers
+set_longer version k numbers (Some ds) = elements_longer version [] numbers ds
 
-queue_longer : (version : ℕ) (numbers : Numbers) (o : Option Items)
-    → Longer (twice (count What.starts (array_start_asked kind.Queue (entries_asked version) o))) numbers
+queue_longer : (version : ℕ) (k : Kind) (numbers : Numbers) (o : Option Items)
+    → Longer (twice (count What.starts (array_start_asked k (entries_asked version) o))) numbers
     (entries_of numbers (or_no_items o)).1
 unfolding array_start_asked
-queue_longer version numbers None = longer_none 0 numbers
-queue_longer version numbers (Some ds) = entries_longer version numbers ds
+queue_longer version k numbers None = longer_none 0 numbers
+queue_longer version k numbers (Some ds) = entries_longer version numbers ds
 
-directory_longer : (version : ℕ) (numbers : Numbers) (o : Option Items)
-    → Longer (twice (count What.starts (array_start_asked kind.Directory (pairs_asked version []) o))) numbers
+directory_longer : (version : ℕ) (k : Kind) (numbers : Numbers) (o : Option Items)
+    → Longer (twice (count What.starts (array_start_asked k (pairs_asked version []) o))) numbers
     (pairs_of numbers (or_no_items o)).1
 unfolding array_start_asked
-directory_longer version numbers None = longer_none 0 numbers
-directory_longer version numbers (Some ds) = pairs_longer version [] numbers ds
+directory_longer version k numbers None = longer_none 0 numbers
+directory_longer version k numbers (Some ds) = pairs_longer version [] numbers ds
+
+form_longer : (version : ℕ) (k : Kind) (form : ValueForm) (numbers : Numbers) (d : Data)
+    → Longer (twice (count What.starts (form_asked version k form d))) numbers (form_start form numbers d).1
+form_longer version k (value_form.Number m) numbers d = longer_none 0 numbers
+form_longer version k value_form.Signed numbers d = longer_none 0 numbers
+form_longer version k value_form.Set numbers d = set_longer version k numbers (as_array d)
+form_longer version k value_form.Queue numbers d = queue_longer version k numbers (as_array d)
+form_longer version k value_form.Directory numbers d = directory_longer version k numbers (as_array d)
 
 start_longer : (version : ℕ) (k : Kind) (numbers : Numbers) (d : Data)
     → Longer (twice (count What.starts (start_asked version k d))) numbers (start_of k numbers d).1
 unfolding start_of start_asked
-start_longer version kind.Account numbers d = longer_none 0 numbers
-start_longer version kind.Counter numbers d = longer_none 0 numbers
-start_longer version kind.Set numbers d = set_longer version numbers (as_array d)
-start_longer version kind.Queue numbers d = queue_longer version numbers (as_array d)
-start_longer version kind.Directory numbers d = directory_longer version numbers (as_array d)
-start_longer version kind.Max numbers d = longer_none 0 numbers
+start_longer version k numbers d = form_longer version k (form_of k) numbers d
 
 pub starts_longer : (version : ℕ) (names : Table) (numbers : Numbers) (ds : Items)
     → Longer (twice (count What.starts (objects_asked version names ds))) numbers (starts_of version numbers ds).1
@@ -111,14 +117,16 @@ pairs_reasons : (numbers : Numbers) (ds : Items) → (pairs_of numbers ds).1.rea
 pairs_reasons numbers no_items = refl
 pairs_reasons numbers (item d ds) = pairs_reasons (pair_of numbers d).1 ds
 
+form_reasons : (form : ValueForm) (numbers : Numbers) (d : Data) → (form_start form numbers d).1.reasons ≡ numbers.reasons
+form_reasons (value_form.Number m) numbers d = refl
+form_reasons value_form.Signed numbers d = refl
+form_reasons value_form.Set numbers d = entries_reasons numbers (or_no_items (as_array d))
+form_reasons value_form.Queue numbers d = entries_reasons numbers (or_no_items (as_array d))
+form_reasons value_form.Directory numbers d = pairs_reasons numbers (or_no_items (as_array d))
+
 start_reasons : (k : Kind) (numbers : Numbers) (d : Data) → (start_of k numbers d).1.reasons ≡ numbers.reasons
 unfolding start_of
-start_reasons kind.Account numbers d = refl
-start_reasons kind.Counter numbers d = refl
-start_reasons kind.Set numbers d = entries_reasons numbers (or_no_items (as_array d))
-start_reasons kind.Queue numbers d = entries_reasons numbers (or_no_items (as_array d))
-start_reasons kind.Directory numbers d = pairs_reasons numbers (or_no_items (as_array d))
-start_reasons kind.Max numbers d = refl
+start_reasons k numbers d = form_reasons (form_of k) numbers d
 
 pub starts_reasons : (version : ℕ) (numbers : Numbers) (ds : Items) → (starts_of version numbers ds).1.reasons ≡ numbers.reasons
 starts_reasons version numbers no_items = refl

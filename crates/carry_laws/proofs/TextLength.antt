@@ -9,9 +9,8 @@ use Rattle.atoms.specs.declared.item.Item.{Item}
 use Rattle.objects.specs.Entries.{State}
 use Rattle.objects.specs.Objects.{kind_of_value}
 use Rattle.objects.specs.declared.kind.Kind.{Kind}
-use Rattle.objects.specs.declared.kind.Kind.TheVariants as kind
 use Rattle.objects.specs.declared.value.Value.{Value}
-use Rattle.objects.specs.declared.value.Value.TheVariants as value
+use Rattle.objects.specs.Contents.{Content, Number, Signed, Set, Queue, Directory, content_length, content_of}
 use Rattle.meaning.specs.Words.{Naming, members, joined_by}
 use Rattle.vocabulary.specs.Words.{kind_text}
 use Rattle.batch.specs.Limits.{all_entries_in, entries_in}
@@ -19,12 +18,13 @@ use Rattle.batch.specs.Names.{is_name}
 use Rattle.meaning.specs.declared.limits.TheConstants.{MAX_START}
 use Rattle.doc_rules.specs.Limits.{limits_of}
 use Rattle.carry.specs.Carried.{carried_text, document_head, first_unfit, item_text, list_text, object_text, object_texts, pair_text}
-use Rattle.carry.specs.Carried.{quoted, start_text}
+use Rattle.carry.specs.Carried.{content_json, quoted, start_text}
 use Rattle.carry_laws.specs.Carrying.{IsCarriedVersion}
 use Rattle.carry_laws.proofs.Carriable.{first_fits}
 use Rattle.carry_laws.proofs.ItemsOf.{members_few}
+use Rattle.carry_laws.proofs.KindWords.{kind_named}
 use Rattle.carry_laws.proofs.LaterNames.{most_bytes, name_bytes}
-use Rattle.carry_laws.proofs.Listed.{AreNamedBoth, AreWritable, IsNamed, IsWritable}
+use Rattle.carry_laws.proofs.Listed.{AreNamedBoth, AreWritable, IsNamed, IsWritable, IsWritableContent}
 use Rattle.carry_laws.proofs.Versions.{enough_bytes}
 
 -- the bytes of all the texts, with two more for each
@@ -56,12 +56,7 @@ quoted_length : (text : List ℕ) → length (quoted text) ≤ length text + 2
 quoted_length text = omega (arith, length-append (codes "\"" ++ text) (codes "\""))
 
 kind_length : (k : Kind) → length (kind_text k) ≤ 32
-kind_length kind.Account = omega arith
-kind_length kind.Counter = omega arith
-kind_length kind.Set = omega arith
-kind_length kind.Queue = omega arith
-kind_length kind.Directory = omega arith
-kind_length kind.Max = omega arith
+kind_length k = name_bytes 1 (kind_text k) (kind_named k)
 
 number_length : (n : ℕ) → n ≤ MAX_START → length (decimal n) ≤ 16
 number_length n small = length-decimal-le 16 n (omega arith) (omega arith) (omega arith)
@@ -85,21 +80,20 @@ module _ (version : ℕ) (names : Naming) where
   pairs_length [] named = omega arith
   pairs_length (pair ∷ pairs) named = omega (arith, pairs_length pairs named.1, pair_length pair named.0)
 
-  start_length : (v : Value) → IsWritable version names v → length (start_text names v) ≤ 268 * entries_in v + 20
-  start_length (value.Account n) ok = omega (arith, number_length n ok)
-  start_length (value.Counter (pos n)) ok = omega (arith, number_length n ok)
-  start_length (value.Counter (negsuc n)) ok = omega (arith, number_length (suc n) ok)
-  start_length (value.Set s) ok =
+  content_chars : (c : Content) → IsWritableContent version names c → length (content_json names c) ≤ 268 * content_length c + 20
+  content_chars (Number n) ok = omega (arith, number_length n ok)
+  content_chars (Signed (pos n)) ok = omega (arith, number_length n ok)
+  content_chars (Signed (negsuc n)) ok = omega (arith, number_length (suc n) ok)
+  content_chars (Set s) ok =
       omega (arith, list_length (map (item_text names) (members s)), items_length (members s) ok, members_few s)
-  start_length (value.Queue q) ok = omega (arith, list_length (map (item_text names) q), items_length q ok)
-  start_length (value.Directory d) ok =
+  content_chars (Queue q) ok = omega (arith, list_length (map (item_text names) q), items_length q ok)
+  content_chars (Directory d) ok =
       omega (
         arith,
         list_length (map (pair_text names) (finite_map.entries d)),
         pairs_length (finite_map.entries d) ok,
         finite_map.len-entries d,
       )
-  start_length (value.Max n) ok = omega (arith, number_length n ok)
 
   parts_length : (a name b kind c start d : List ℕ) → length (a ++ name ++ b ++ kind ++ c ++ start ++ d)
       ≡ length a + length name + length b + length kind + length c + length start + length d
@@ -117,7 +111,7 @@ module _ (version : ℕ) (names : Naming) where
         name_length version (names.object n) named,
         quoted_length (kind_text (kind_of_value v)),
         kind_length (kind_of_value v),
-        start_length v ok,
+        content_chars (content_of v) ok,
       )
 
   objects_length : (n : ℕ) (values : State) → AreWritable version names n values

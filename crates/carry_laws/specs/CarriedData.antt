@@ -7,7 +7,7 @@ use Rattle.atoms.specs.declared.item.Item.{Item}
 use Rattle.objects.specs.Entries.{State}
 use Rattle.objects.specs.Objects.{kind_of_value}
 use Rattle.objects.specs.declared.value.Value.{Value}
-use Rattle.objects.specs.declared.value.Value.TheVariants as value
+use Rattle.objects.specs.Contents.{Content, Number, Signed, Set, Queue, Directory, content_of}
 use Rattle.meaning.specs.Words.{Naming, members}
 use Rattle.vocabulary.specs.Words.{kind_text}
 
@@ -22,13 +22,15 @@ abbrev pub pairs_data : Naming → List (Item × Item) → Items
 pairs_data names [] = no_items
 pairs_data names (pair ∷ pairs) = item (pair_data names pair) (pairs_data names pairs)
 
+abbrev pub content_data : Naming → Content → Data
+content_data names (Number n) = number (unsigned n)
+content_data names (Signed n) = number (of_integer n)
+content_data names (Set s) = array (items_data names (members s))
+content_data names (Queue q) = array (items_data names q)
+content_data names (Directory d) = array (pairs_data names (finite_map.entries d))
+
 abbrev pub start_data : Naming → Value → Data
-start_data names (value.Account n) = number (unsigned n)
-start_data names (value.Counter n) = number (of_integer n)
-start_data names (value.Set s) = array (items_data names (members s))
-start_data names (value.Queue q) = array (items_data names q)
-start_data names (value.Directory d) = array (pairs_data names (finite_map.entries d))
-start_data names (value.Max n) = number (unsigned n)
+start_data names v = content_data names (content_of v)
 
 abbrev pub object_data : Naming → ℕ → Value → Data
 object_data names n v = object (member (codes "kind") (string (kind_text (kind_of_value v)))

@@ -6,7 +6,8 @@ use Rattle.atoms.specs.Item.{item_cmp}
 use Rattle.atoms.specs.declared.item.Item.{Item}
 use Rattle.objects.specs.Entries.{State}
 use Rattle.objects.specs.declared.value.Value.{Value}
-use Rattle.objects.specs.declared.value.Value.TheVariants as value
+use Rattle.objects.specs.Contents.{Content, Number, Signed, Set, Queue, Directory, content_of}
+use Rattle.objects.specs.Objects.{kind_of_value}
 use Rattle.meaning.specs.Words.{Naming}
 use Rattle.carry.specs.Joined.{StartOf}
 
@@ -18,15 +19,18 @@ HasMember names s name = (x : Item) × (finite_set.contains s x ≡ true) × (na
 abbrev pub Binds : Naming → finite_map.FinMap item_cmp Item → List ℕ → List ℕ → Type 0
 Binds names d key name = (k : Item) × (x : Item) × (finite_map.get d k ≡ Some x) × (names.item k ≡ key) × (names.item x ≡ name)
 
--- of one kind, with the same number, or with items of the same names
+-- the same number, or items of the same names
+abbrev pub IsSameContent : Naming → Content → Naming → Content → Type 0
+IsSameContent old (Number n) new (Number m) = n ≡ m
+IsSameContent old (Signed n) new (Signed m) = n ≡ m
+IsSameContent old (Set s) new (Set t) = (name : List ℕ) → HasMember old s name ↔ HasMember new t name
+IsSameContent old (Queue q) new (Queue p) = map old.item q ≡ map new.item p
+IsSameContent old (Directory d) new (Directory e) = (key name : List ℕ) → Binds old d key name ↔ Binds new e key name
+IsSameContent old c new d = ⊥
+
+-- of one kind, with the same content
 abbrev pub IsSame : Naming → Value → Naming → Value → Type 0
-IsSame old (value.Account n) new (value.Account m) = n ≡ m
-IsSame old (value.Counter n) new (value.Counter m) = n ≡ m
-IsSame old (value.Set s) new (value.Set t) = (name : List ℕ) → HasMember old s name ↔ HasMember new t name
-IsSame old (value.Queue q) new (value.Queue p) = map old.item q ≡ map new.item p
-IsSame old (value.Directory d) new (value.Directory e) = (key name : List ℕ) → Binds old d key name ↔ Binds new e key name
-IsSame old (value.Max n) new (value.Max m) = n ≡ m
-IsSame old v new w = ⊥
+IsSame old v new w = (kind_of_value v ≡ kind_of_value w) × IsSameContent old (content_of v) new (content_of w)
 
 -- as many objects, each the same as that in its place
 abbrev pub AreSame : Naming → State → Naming → State → Type 0

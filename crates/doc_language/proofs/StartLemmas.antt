@@ -7,7 +7,9 @@ use Rattle.std.proofs.lemmas.List.{append-nil}
 use Rattle.serde_json.specs.Data.{Data, Items, no_items, item}
 use Rattle.serde_json.specs.Find.{as_array, as_str, get}
 use Rattle.objects.specs.declared.kind.Kind.{Kind}
-use Rattle.objects.specs.declared.kind.Kind.TheVariants as kind
+use Rattle.objects.specs.declared.kind.ValueForm.{ValueForm}
+use Rattle.objects.specs.declared.kind.ValueForm.TheVariants as value_form
+use Rattle.objects.specs.Contents.{form_of}
 use Rattle.objects.specs.declared.value.Value.{Value}
 use Rattle.objects.specs.declared.value.Value.TheVariants as value
 use Rattle.batch.specs.Names.{is_name}
@@ -20,10 +22,10 @@ use Rattle.doc_tree.specs.Asked.{object_name_asked, object_shape_asked, or_no_it
 use Rattle.doc_tree.specs.Demand.{one_more_start}
 use Rattle.doc_tree.specs.Look.{has_only, text_item, text_member}
 use Rattle.doc_tree.specs.Places.{Placed, array_placed, elements_placed, entries_placed, itself, member_named, nothing, object_placed}
-use Rattle.doc_tree.specs.Places.{objects_placed, pairs_placed, seek, start_placed}
+use Rattle.doc_tree.specs.Places.{objects_placed, pairs_placed, form_placed, seek, start_placed}
 use Rattle.doc_tree.specs.Scope.{Numbers, Table, is_listed, with_item, with_text}
-use Rattle.doc_tree.specs.Spelled.{bind_all, entries_of, item_of, pair_of, pairs_of, put_all, start_of, starts_of}
-use Rattle.doc_language.specs.Document.{array_start, element_in, entry_in, object_in, pair_in, start_in}
+use Rattle.doc_tree.specs.Spelled.{bind_all, entries_of, item_of, pair_of, pairs_of, put_all, form_start, start_of, starts_of}
+use Rattle.doc_language.specs.Document.{array_start, element_in, entry_in, form_in, object_in, pair_in, start_in}
 use Rattle.doc_language.specs.Reading.{Reading, Seen, each}
 use Rattle.doc_language.proofs.Joined.{after_is, answer, asks_is, counted_is, each_is, inside_is, left_by, needs_is, seen_of}
 
@@ -105,21 +107,25 @@ array_reads k entry valued places spelling last reads d seen =
     needs_is (as_array d) _ (λ no. rw no) (λ ds there. rw there (
     after_is (each entry 0 [] ds) _ (seek seen.counts (places ds)) (reads ds seen) (λ found failed. rw failed) (λ c met. rw met)))
 
--- what an object of this kind starts with
+-- what an object of a kind of this form starts with
+form_reads : (version : ℕ) (k : Kind) (form : ValueForm) (d : Data) (seen : Seen) → form_in version k form d seen
+    ≡ answer (seek seen.counts (form_placed version k form d)) (form_start form seen.numbers d).0 (form_start form seen.numbers d).1
+form_reads version k (value_form.Number m) d seen = needs_is (number_start d) _ (λ no. rw no) (λ n there. rw there)
+form_reads version k value_form.Signed d seen = needs_is (signed_start d) _ (λ no. rw no) (λ n there. rw there)
+form_reads version k value_form.Set d seen = array_reads k (element_in version) (λ items. value.Set (put_all finite_set.empty items))
+    (elements_placed version [] 0) entries_of (left_by (λ earlier d. with_text (text_of d) earlier) []) (elements_read version [] 0) d seen
+form_reads version k value_form.Queue d seen = array_reads k (entry_in version) value.Queue (entries_placed version 0) entries_of
+    (λ ds. [])
+    (entries_read version [] 0) d seen
+form_reads version k value_form.Directory d seen = array_reads k (pair_in version)
+    (λ pairs. value.Directory (bind_all finite_map.empty pairs))
+    (pairs_placed version [] 0) pairs_of (left_by (λ earlier d. with_text (key_of d) earlier) []) (pairs_read version [] 0) d seen
+
+-- what an object of a kind starts with
 start_reads : (version : ℕ) (k : Kind) (d : Data) (seen : Seen) → start_in version k d seen
     ≡ answer (seek seen.counts (start_placed version k d)) (start_of k seen.numbers d).0 (start_of k seen.numbers d).1
 unfolding start_in start_placed start_of
-start_reads version kind.Account d seen = needs_is (number_start d) _ (λ no. rw no) (λ n there. rw there)
-start_reads version kind.Counter d seen = needs_is (signed_start d) _ (λ no. rw no) (λ n there. rw there)
-start_reads version kind.Max d seen = needs_is (number_start d) _ (λ no. rw no) (λ n there. rw there)
-start_reads version kind.Set d seen = array_reads kind.Set (element_in version) (λ items. value.Set (put_all finite_set.empty items))
-    (elements_placed version [] 0) entries_of (left_by (λ earlier d. with_text (text_of d) earlier) []) (elements_read version [] 0) d seen
-start_reads version kind.Queue d seen = array_reads kind.Queue (entry_in version) value.Queue (entries_placed version 0) entries_of
-    (λ ds. [])
-    (entries_read version [] 0) d seen
-start_reads version kind.Directory d seen = array_reads kind.Directory (pair_in version)
-    (λ pairs. value.Directory (bind_all finite_map.empty pairs))
-    (pairs_placed version [] 0) pairs_of (left_by (λ earlier d. with_text (key_of d) earlier) []) (pairs_read version [] 0) d seen
+start_reads version k d seen = form_reads version k (form_of k) d seen
 
 -- an object, and the names up to it
 object_reads : (version : ℕ) (names : Table) (d : Data) (seen : Seen) → object_in version names d seen

@@ -8,7 +8,9 @@ use Rattle.serde_json.specs.Events.{items_len}
 use Rattle.serde_json.specs.Find.{get, as_array, as_str}
 use Rattle.atoms.specs.declared.item.Item.{Item}
 use Rattle.objects.specs.declared.kind.Kind.{Kind}
-use Rattle.objects.specs.declared.kind.Kind.TheVariants as kind
+use Rattle.objects.specs.declared.kind.ValueForm.{ValueForm}
+use Rattle.objects.specs.declared.kind.ValueForm.TheVariants as value_form
+use Rattle.objects.specs.Contents.{form_of, number_value}
 use Rattle.objects.specs.declared.value.Value.{Value}
 use Rattle.objects.specs.declared.value.Value.TheVariants as value
 use Rattle.objects.specs.Entries.{kinds}
@@ -257,15 +259,17 @@ abbrev pub array_start : {A : Type 0} → Kind → (Table → Data → Reading (
 array_start k entry valued d = needs (as_array d) (rule.Start (start.Of k)) (λ ds.
     after (each entry 0 [] ds) (λ entries. spells (valued entries.0)))
 
--- what an object of this kind starts with
-unfoldable pub start_in : ℕ → Kind → Data → Reading Value
-start_in version kind.Account d = needs (number_start d) (rule.Start (start.Of kind.Account)) (λ n. spells (value.Account n))
-start_in version kind.Counter d = needs (signed_start d) (rule.Start (start.Of kind.Counter)) (λ n. spells (value.Counter n))
-start_in version kind.Max d = needs (number_start d) (rule.Start (start.Of kind.Max)) (λ n. spells (value.Max n))
-start_in version kind.Set d = array_start kind.Set (element_in version) (λ items. value.Set (put_all finite_set.empty items)) d
-start_in version kind.Queue d = array_start kind.Queue (entry_in version) value.Queue d
-start_in version kind.Directory d = array_start kind.Directory (pair_in version)
+-- what an object of a kind of this form starts with
+abbrev pub form_in : ℕ → Kind → ValueForm → Data → Reading Value
+form_in version k (value_form.Number m) d = needs (number_start d) (rule.Start (start.Of k)) (λ n. spells (number_value m n))
+form_in version k value_form.Signed d = needs (signed_start d) (rule.Start (start.Of k)) (λ n. spells (value.Counter n))
+form_in version k value_form.Set d = array_start k (element_in version) (λ items. value.Set (put_all finite_set.empty items)) d
+form_in version k value_form.Queue d = array_start k (entry_in version) value.Queue d
+form_in version k value_form.Directory d = array_start k (pair_in version)
     (λ pairs. value.Directory (bind_all finite_map.empty pairs)) d
+
+unfoldable pub start_in : ℕ → Kind → Data → Reading Value
+start_in version k d = form_in version k (form_of k) d
 
 -- an object after those with these names, and the names with its own
 unfoldable pub object_in : ℕ → Table → Data → Reading (Value × Table)

@@ -4,7 +4,9 @@ use Rattle.std.specs.Prelude.{option_map, nat_le, if◌then◌else◌, decimal}
 use Rattle.serde_json.specs.Data.{Data, string}
 use Rattle.serde_json.specs.Find.{as_object, as_str, at, get}
 use Rattle.objects.specs.declared.kind.Kind.{Kind}
-use Rattle.objects.specs.declared.kind.Kind.TheVariants as kind
+use Rattle.objects.specs.declared.kind.ValueForm.{ValueForm}
+use Rattle.objects.specs.declared.kind.ValueForm.TheVariants as value_form
+use Rattle.objects.specs.Contents.{form_of}
 use Rattle.meaning.specs.declared.limits.TheConstants.{MAX_DEPTH, MAX_START}
 use Rattle.meaning.specs.WellFormed.{largest_amount}
 use Rattle.doc_rules.specs.declared.form.Form.{Form}
@@ -62,17 +64,16 @@ kind_said version found =
     else if is_text found then shown_in found ++ codes " is no kind of object"
     else wanting_at (codes "kind") (codes "a text") found
 
--- what objects of a kind start with
-unfoldable pub starts_with : Kind → List ℕ
-starts_with kind.Account = codes "a whole number from 0 to " ++ grouped MAX_START
-starts_with kind.Counter = codes "a whole number from -" ++ grouped MAX_START ++ codes " to " ++ grouped MAX_START
-starts_with kind.Set = codes "a list of items"
-starts_with kind.Queue = codes "a list of items"
-starts_with kind.Directory = codes "a list of pairs"
-starts_with kind.Max = codes "a whole number from 0 to " ++ grouped MAX_START
+-- what objects of a form start with
+unfoldable pub starts_with : ValueForm → List ℕ
+starts_with (value_form.Number k) = codes "a whole number from 0 to " ++ grouped MAX_START
+starts_with value_form.Signed = codes "a whole number from -" ++ grouped MAX_START ++ codes " to " ++ grouped MAX_START
+starts_with value_form.Set = codes "a list of items"
+starts_with value_form.Queue = codes "a list of items"
+starts_with value_form.Directory = codes "a list of pairs"
 
 unfoldable pub start_said : Kind → Data → List ℕ
-start_said k d = a_kind k ++ codes " can't start with " ++ shown d ++ codes ": it starts with " ++ starts_with k
+start_said k d = a_kind k ++ codes " can't start with " ++ shown d ++ codes ": it starts with " ++ starts_with (form_of k)
 
 -- ---- steps
 

@@ -17,7 +17,7 @@ use crate::phrases::{
 use crate::shown::{quoted, shown, write_grouped};
 use doc_rules::{Form, LAST_VERSION};
 use meaning::limits::MAX_START;
-use objects::Kind;
+use objects::{Kind, ValueForm};
 use serde_json::Value;
 use std::alloc::{AllocError, Global};
 use vocabulary::kind_of_text;
@@ -114,22 +114,22 @@ pub(crate) fn write_start(
     let object = a_kind(kind);
     let value = shown(alloc, part)?;
     write!(out, "{object} can't start with {value}: it starts with ")?;
-    write_starts_with(out, kind)?;
+    write_starts_with(out, kind.form())?;
     Ok(())
 }
 
 #[tactic(auto, unfolding(crate::specs::Words::starts_with))]
-fn write_starts_with(out: &mut String, kind: Kind) -> Result<(), AllocError>
-    ensures { OnOk result (string_bytes out.new ≡ string_bytes out.old ++ starts_with kind) }
+fn write_starts_with(out: &mut String, form: ValueForm) -> Result<(), AllocError>
+    ensures { OnOk result (string_bytes out.new ≡ string_bytes out.old ++ starts_with form) }
 {
-    match kind {
-        Kind::Account | Kind::Max => write_up_to_most(out, "a whole number from 0 to ")?,
-        Kind::Counter => {
+    match form {
+        ValueForm::Number(_) => write_up_to_most(out, "a whole number from 0 to ")?,
+        ValueForm::Signed => {
             write_up_to_most(out, "a whole number from -")?;
             write_up_to_most(out, " to ")?;
         }
-        Kind::Set | Kind::Queue => write!(out, "a list of items")?,
-        Kind::Directory => write!(out, "a list of pairs")?,
+        ValueForm::Set | ValueForm::Queue => write!(out, "a list of items")?,
+        ValueForm::Directory => write!(out, "a list of pairs")?,
     }
     Ok(())
 }

@@ -12,7 +12,9 @@ use Rattle.atoms.specs.Item.{item_cmp}
 use Rattle.atoms.specs.declared.item.Item.{Item}
 use Rattle.objects.specs.Entries.{State, kinds}
 use Rattle.objects.specs.declared.kind.Kind.{Kind}
-use Rattle.objects.specs.declared.kind.Kind.TheVariants as kind
+use Rattle.objects.specs.declared.kind.NumberKind.{NumberKind}
+use Rattle.objects.specs.declared.kind.ValueForm.TheVariants as value_form
+use Rattle.objects.specs.Contents.{form_of, number_value}
 use Rattle.objects.specs.declared.value.Value.{Value}
 use Rattle.objects.specs.declared.value.Value.TheVariants as value
 use Rattle.doc_tree.specs.Answer.{AreMet, IsMet}
@@ -87,60 +89,58 @@ common_read name text v now rest reads =
 
 -- ---- what it starts with
 
-module _ (version : ℕ) (c : Counts) (numbers : Numbers) (d : Data) (n : ℕ) (is : number_start d ≡ Some n) where
-  pub account_met : AreMet c (start_placed version kind.Account d) c
+module _ (version : ℕ) (c : Counts) (numbers : Numbers) (d : Data) (k : Kind) where
+  pub number_met : (m : NumberKind) (n : ℕ) → form_of k ≡ value_form.Number m → number_start d ≡ Some n
+      → AreMet c (start_placed version k d) c
   unfolding start_placed
-  account_met = rw is refl
+  number_met m n form is = rw (form, is) refl
 
-  pub account_spelled : (value.Account n, numbers) ≡ start_of kind.Account numbers d
+  pub number_spelled : (m : NumberKind) (n : ℕ) → form_of k ≡ value_form.Number m → number_start d ≡ Some n
+      → (number_value m n, numbers) ≡ start_of k numbers d
   unfolding start_of
-  account_spelled = rw is refl
+  number_spelled m n form is = rw (form, is) refl
 
-  pub max_met : AreMet c (start_placed version kind.Max d) c
+  pub signed_met : (n : ℤ) → form_of k ≡ value_form.Signed → signed_start d ≡ Some n → AreMet c (start_placed version k d) c
   unfolding start_placed
-  max_met = rw is refl
+  signed_met n form is = rw (form, is) refl
 
-  pub max_spelled : (value.Max n, numbers) ≡ start_of kind.Max numbers d
+  pub signed_spelled : (n : ℤ) → form_of k ≡ value_form.Signed → signed_start d ≡ Some n
+      → (value.Counter n, numbers) ≡ start_of k numbers d
   unfolding start_of
-  max_spelled = rw is refl
+  signed_spelled n form is = rw (form, is) refl
 
-module _ (version : ℕ) (c : Counts) (numbers : Numbers) (d : Data) (n : ℤ) (is : signed_start d ≡ Some n) where
-  pub counter_met : AreMet c (start_placed version kind.Counter d) c
+module _ (version : ℕ) (c next : Counts) (numbers after : Numbers) (ds : Items) (k : Kind) where
+  pub set_met : form_of k ≡ value_form.Set → AreMet c (elements_placed version [] 0 ds) next
+      → AreMet c (start_placed version k (array ds)) next
   unfolding start_placed
-  counter_met = rw is refl
+  set_met form met = rw form met
 
-  pub counter_spelled : (value.Counter n, numbers) ≡ start_of kind.Counter numbers d
+  pub set_spelled : (set : finite_set.FinSet item_cmp) → form_of k ≡ value_form.Set
+      → (set, after) ≡ spelled_map (put_all finite_set.empty) (entries_of numbers ds)
+      → (value.Set set, after) ≡ start_of k numbers (array ds)
   unfolding start_of
-  counter_spelled = rw is refl
+  set_spelled set form is = rw form (ap (spelled_map value.Set) is)
 
-module _ (version : ℕ) (c next : Counts) (numbers after : Numbers) (ds : Items) where
-  pub set_met : AreMet c (elements_placed version [] 0 ds) next → AreMet c (start_placed version kind.Set (array ds)) next
+  pub queue_met : form_of k ≡ value_form.Queue → AreMet c (entries_placed version 0 ds) next
+      → AreMet c (start_placed version k (array ds)) next
   unfolding start_placed
-  set_met met = met
+  queue_met form met = rw form met
 
-  pub set_spelled : (set : finite_set.FinSet item_cmp) → (set, after) ≡ spelled_map (put_all finite_set.empty) (entries_of numbers ds)
-      → (value.Set set, after) ≡ start_of kind.Set numbers (array ds)
+  pub queue_spelled : (queue : List Item) → form_of k ≡ value_form.Queue → (queue, after) ≡ entries_of numbers ds
+      → (value.Queue queue, after) ≡ start_of k numbers (array ds)
   unfolding start_of
-  set_spelled set is = ap (spelled_map value.Set) is
+  queue_spelled queue form is = rw form (ap (spelled_map value.Queue) is)
 
-  pub queue_met : AreMet c (entries_placed version 0 ds) next → AreMet c (start_placed version kind.Queue (array ds)) next
+  pub directory_met : form_of k ≡ value_form.Directory → AreMet c (pairs_placed version [] 0 ds) next
+      → AreMet c (start_placed version k (array ds)) next
   unfolding start_placed
-  queue_met met = met
+  directory_met form met = rw form met
 
-  pub queue_spelled : (queue : List Item) → (queue, after) ≡ entries_of numbers ds
-      → (value.Queue queue, after) ≡ start_of kind.Queue numbers (array ds)
-  unfolding start_of
-  queue_spelled queue is = ap (spelled_map value.Queue) is
-
-  pub directory_met : AreMet c (pairs_placed version [] 0 ds) next → AreMet c (start_placed version kind.Directory (array ds)) next
-  unfolding start_placed
-  directory_met met = met
-
-  pub directory_spelled : (directory : finite_map.FinMap item_cmp Item)
+  pub directory_spelled : (directory : finite_map.FinMap item_cmp Item) → form_of k ≡ value_form.Directory
       → (directory, after) ≡ spelled_map (bind_all finite_map.empty) (pairs_of numbers ds)
-      → (value.Directory directory, after) ≡ start_of kind.Directory numbers (array ds)
+      → (value.Directory directory, after) ≡ start_of k numbers (array ds)
   unfolding start_of
-  directory_spelled directory is = ap (spelled_map value.Directory) is
+  directory_spelled directory form is = rw form (ap (spelled_map value.Directory) is)
 
 -- ---- all objects
 

@@ -4,7 +4,7 @@ use Rattle.std.proofs.Common.{◌≡◌, ℕ, zero, suc, ◌-◌, ◌<◌, List,
 use Rattle.std.proofs.Common.{option_and_then, option_map, ◌∙◌}
 use Rattle.json.specs.Token.{Token}
 use Rattle.json.specs.Json as json
-use Rattle.json.specs.Json.{Parse, after_end_array, items, items_step, members, members_step, parse_map, read_key}
+use Rattle.json.specs.Json.{Parse, after_end_array, items, items_step, members, parse_map, read_key}
 use Rattle.json.proofs.Grammar.{items_more, members_more, members_no_key, value-begin_array, value-begin_object}
 use Rattle.serde_json.specs.Data.{Data, Items, Members, array, item, no_members, object, put}
 use Rattle.serde_json.specs.Read.{of_json, of_items, of_members, converted}

@@ -39,7 +39,7 @@ use doc_tree::starts::{add_name, number_start, read_object, signed_start};
 use doc_tree::state::Numbering;
 use indexmap::IndexSet;
 use json::{Reader, Token};
-use objects::{Kind, Objects, Value as ObjectValue};
+use objects::{Kind, Objects, Value as ObjectValue, ValueForm};
 use serde_json::{Map, Value};
 use std::alloc::Global;
 use vocabulary::kind_of_text;
@@ -211,21 +211,20 @@ fn pull_start(
         × AreMet counts.old (start_placed version kind d) counts.new
         × ((start, numbers_of numbering.new) ≡ start_of kind (numbers_of numbering.old) d)) }
 {
-    match kind {
-        Kind::Account => Ok(ObjectValue::Account(pull_number(reader)?)),
-        Kind::Counter => Ok(ObjectValue::Counter(pull_signed(reader)?)),
-        Kind::Max => Ok(ObjectValue::Max(pull_number(reader)?)),
-        Kind::Set => {
+    match kind.form() {
+        ValueForm::Number(number_kind) => Ok(number_kind.value(pull_number(reader)?)),
+        ValueForm::Signed => Ok(ObjectValue::Counter(pull_signed(reader)?)),
+        ValueForm::Set => {
             pull_begin_array(reader)?;
             let set = pull_set(alloc, reader, version, counts, numbering)?;
             Ok(ObjectValue::Set(set))
         }
-        Kind::Queue => {
+        ValueForm::Queue => {
             pull_begin_array(reader)?;
             let queue = pull_queue(alloc, reader, version, counts, numbering)?;
             Ok(ObjectValue::Queue(queue))
         }
-        Kind::Directory => {
+        ValueForm::Directory => {
             pull_begin_array(reader)?;
             let directory = pull_directory(alloc, reader, version, counts, numbering)?;
             Ok(ObjectValue::Directory(directory))

@@ -6,7 +6,9 @@ use Rattle.std.proofs.lemmas.List.{append-nil}
 use Rattle.serde_json.specs.Data.{Data, Items, no_items, item, Members, no_members, member}
 use Rattle.serde_json.specs.Find.{as_array, get}
 use Rattle.objects.specs.declared.kind.Kind.{Kind}
-use Rattle.objects.specs.declared.kind.Kind.TheVariants as kind
+use Rattle.objects.specs.declared.kind.ValueForm.{ValueForm}
+use Rattle.objects.specs.declared.kind.ValueForm.TheVariants as value_form
+use Rattle.objects.specs.Contents.{form_of}
 use Rattle.batch.specs.Names.{is_name}
 use Rattle.meaning.specs.declared.limits.TheConstants.{MAX_DEPTH}
 use Rattle.doc_tree.specs.declared.steps.Sort.{Sort}
@@ -29,7 +31,8 @@ use Rattle.doc_tree.specs.Asked.{transactions_in, version_in}
 use Rattle.doc_tree.specs.Places.{Found, Placed, Places, PathStep, array_placed, below, block_placed, block_placed_if, children_placed}
 use Rattle.doc_tree.specs.Places.{elements_placed, entries_placed, fault_in, first_fault, go_on, handlers_placed, here, if_placed, inside}
 use Rattle.doc_tree.specs.Places.{itself, members_placed, nothing, object_placed, objects_placed, pairs_placed, parallel_placed, placed}
-use Rattle.doc_tree.specs.Places.{seek, start_placed, step_placed, step_placed_by, steps_placed, sub_placed, transactions_placed}
+use Rattle.doc_tree.specs.Places.{form_placed, seek, start_placed, step_placed, step_placed_by, steps_placed, sub_placed}
+use Rattle.doc_tree.specs.Places.{transactions_placed}
 use Rattle.doc_tree.proofs.Checks.{and_check, check-after, check-append, failed-before}
 
 -- the demands without their places
@@ -136,13 +139,15 @@ unfoldable pub array_start_asked : Kind → (Items → List Demand) → Option I
 array_start_asked k asks None = holds false (Start (Of k)) ∷ []
 array_start_asked k asks (Some ds) = asks ds
 
+abbrev pub form_asked : ℕ → Kind → ValueForm → Data → List Demand
+form_asked version k (value_form.Number m) d = holds (is_some (number_start d)) (Start (Of k)) ∷ []
+form_asked version k value_form.Signed d = holds (is_some (signed_start d)) (Start (Of k)) ∷ []
+form_asked version k value_form.Set d = array_start_asked k (elements_asked version []) (as_array d)
+form_asked version k value_form.Queue d = array_start_asked k (entries_asked version) (as_array d)
+form_asked version k value_form.Directory d = array_start_asked k (pairs_asked version []) (as_array d)
+
 unfoldable pub start_asked : ℕ → Kind → Data → List Demand
-start_asked version kind.Account d = holds (is_some (number_start d)) (Start (Of kind.Account)) ∷ []
-start_asked version kind.Counter d = holds (is_some (signed_start d)) (Start (Of kind.Counter)) ∷ []
-start_asked version kind.Set d = array_start_asked kind.Set (elements_asked version []) (as_array d)
-start_asked version kind.Queue d = array_start_asked kind.Queue (entries_asked version) (as_array d)
-start_asked version kind.Directory d = array_start_asked kind.Directory (pairs_asked version []) (as_array d)
-start_asked version kind.Max d = holds (is_some (number_start d)) (Start (Of kind.Max)) ∷ []
+start_asked version k d = form_asked version k (form_of k) d
 
 unfoldable pub object_asked : ℕ → Table → Data → List Demand
 object_asked version names d =
@@ -319,17 +324,20 @@ pairs_same : (version : ℕ) (earlier : Table) (i : ℕ) (ds : Items) → demand
 pairs_same version earlier i no_items = refl
 pairs_same version earlier i (item d ds) = rw (append-nil, pairs_same version (with_text (key_of d) earlier) (i + 1) ds) refl
 
+form_same : (version : ℕ) (k : Kind) (form : ValueForm) (d : Data)
+    → demands_of (form_placed version k form d) ≡ form_asked version k form d
+form_same version k (value_form.Number m) d = refl
+form_same version k value_form.Signed d = refl
+form_same version k value_form.Set d = list_same k (elements_asked version []) (elements_placed version [] 0) (as_array d)
+    (elements_same version [] 0)
+form_same version k value_form.Queue d = list_same k (entries_asked version) (entries_placed version 0) (as_array d)
+    (entries_same version 0)
+form_same version k value_form.Directory d = list_same k (pairs_asked version []) (pairs_placed version [] 0) (as_array d)
+    (pairs_same version [] 0)
+
 start_same : (version : ℕ) (k : Kind) (d : Data) → demands_of (start_placed version k d) ≡ start_asked version k d
 unfolding start_placed start_asked
-start_same version kind.Account d = refl
-start_same version kind.Counter d = refl
-start_same version kind.Set d = list_same kind.Set (elements_asked version []) (elements_placed version [] 0) (as_array d)
-    (elements_same version [] 0)
-start_same version kind.Queue d = list_same kind.Queue (entries_asked version) (entries_placed version 0) (as_array d)
-    (entries_same version 0)
-start_same version kind.Directory d = list_same kind.Directory (pairs_asked version []) (pairs_placed version [] 0) (as_array d)
-    (pairs_same version [] 0)
-start_same version kind.Max d = refl
+start_same version k d = form_same version k (form_of k) d
 
 object_same : (version : ℕ) (names : Table) (d : Data) → demands_of (object_placed version names d) ≡ object_asked version names d
 unfolding object_placed object_asked

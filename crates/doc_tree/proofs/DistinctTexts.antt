@@ -9,7 +9,9 @@ use Rattle.std.proofs.lemmas.Slice.Eq.{bytes_eq-Decides}
 use Rattle.serde_json.specs.Data.{Data, Items, no_items, item, Members, no_members, member}
 use Rattle.serde_json.specs.Find.{as_array, as_str, get}
 use Rattle.objects.specs.declared.kind.Kind.{Kind}
-use Rattle.objects.specs.declared.kind.Kind.TheVariants as kind
+use Rattle.objects.specs.declared.kind.ValueForm.{ValueForm}
+use Rattle.objects.specs.declared.kind.ValueForm.TheVariants as value_form
+use Rattle.objects.specs.Contents.{form_of}
 use Rattle.doc_tree.specs.Asked.{children_in, else_reason, handlers_in, if_label, is_source, key_of, kind_in, name_item, objects_in}
 use Rattle.doc_tree.specs.Asked.{or_no_items, part, scope_after, setting_in, sort_of, subject_of, text_of, transactions_in, value_of}
 use Rattle.doc_tree.specs.Asked.{verb_in, version_in}
@@ -17,6 +19,7 @@ use Rattle.doc_tree.specs.Look.{has, or_empty, text_member}
 use Rattle.doc_tree.specs.Scope.{Numbers, Scope, Setting, Table, is_listed, no_numbers, with_item, with_reason, with_text}
 use Rattle.doc_tree.specs.Spelled.{Spelling, abort_of, block_of, block_of_if, blocks_of, children_spelled, document_in, entries_of}
 use Rattle.doc_tree.specs.Spelled.{handlers_spelled, if_of, members_of, operation_of, pairs_of, parallel_of, parts_in, reason_of, start_of}
+use Rattle.doc_tree.specs.Spelled.{form_start}
 use Rattle.doc_tree.specs.Spelled.{argument_of, refusal_of, starts_of, step_of, step_of_by, steps_spelled, sub_of, template_of, test_of}
 use Rattle.doc_tree.specs.Asked.{document_shape_asked, names_of, object_name, object_name_asked, object_shape_asked}
 use Rattle.doc_tree.specs.Demand.{no_counts}
@@ -207,14 +210,16 @@ pairs_kept numbers (item d ds) apart =
     let between = with_item (key_of d) numbers in
     pairs_kept (with_item (value_of d) between) ds (item_kept (value_of d) between (item_kept (key_of d) numbers apart))
 
+form_kept : (form : ValueForm) (numbers : Numbers) (d : Data) → Differ numbers → Differ (form_start form numbers d).1
+form_kept (value_form.Number k) numbers d apart = apart
+form_kept value_form.Signed numbers d apart = apart
+form_kept value_form.Set numbers d apart = entries_kept numbers (or_no_items (as_array d)) apart
+form_kept value_form.Queue numbers d apart = entries_kept numbers (or_no_items (as_array d)) apart
+form_kept value_form.Directory numbers d apart = pairs_kept numbers (or_no_items (as_array d)) apart
+
 start_kept : (k : Kind) (numbers : Numbers) (d : Data) → Differ numbers → Differ (start_of k numbers d).1
 unfolding start_of
-start_kept kind.Account numbers d apart = apart
-start_kept kind.Counter numbers d apart = apart
-start_kept kind.Set numbers d apart = entries_kept numbers (or_no_items (as_array d)) apart
-start_kept kind.Queue numbers d apart = entries_kept numbers (or_no_items (as_array d)) apart
-start_kept kind.Directory numbers d apart = pairs_kept numbers (or_no_items (as_array d)) apart
-start_kept kind.Max numbers d apart = apart
+start_kept k numbers d apart = form_kept (form_of k) numbers d apart
 
 starts_kept : (version : ℕ) (numbers : Numbers) (ds : Items) → Differ numbers → Differ (starts_of version numbers ds).1
 starts_kept version numbers no_items apart = apart

@@ -8,12 +8,15 @@ use Rattle.serde_json.specs.Data.{Data, Items, no_items, item}
 use Rattle.serde_json.specs.View.{items_view, view}
 use Rattle.serde_json.specs.declared.value.Value.{Value}
 use Rattle.objects.specs.declared.kind.Kind.{Kind}
-use Rattle.objects.specs.declared.kind.Kind.TheVariants as kind
+use Rattle.objects.specs.declared.kind.ValueForm.{ValueForm}
+use Rattle.objects.specs.declared.kind.ValueForm.TheVariants as value_form
+use Rattle.objects.specs.Contents.{form_of}
+use Rattle.objects.proofs.KindLemmas.{number_of_kind, only_directories, only_queues, only_sets, only_signed}
 use Rattle.objects.specs.Objects.{kind_of_value}
 use Rattle.objects.specs.Entries.{kinds}
 use Rattle.doc_tree.specs.Asked.{declared_by, kind_in, kinds_of, names_of, part}
 use Rattle.doc_tree.specs.Scope.{Numbers, Setting, Table}
-use Rattle.doc_tree.specs.Spelled.{start_of, starts_of}
+use Rattle.doc_tree.specs.Spelled.{form_start, start_of, starts_of}
 
 -- the items from a place on, by the one at the place
 pub items_from : (xs : List Value) (i : ℕ) (x : Value) → i < length xs → x ≡ get_or xs i x → items_view (drop i xs) ≡ item (view x)
@@ -53,12 +56,14 @@ as_many_starts version numbers (x ∷ xs) =
 
 pub kind_of_start : (k : Kind) (numbers : Numbers) (d : Data) → kind_of_value (start_of k numbers d).0 ≡ k
 unfolding start_of
-kind_of_start kind.Account numbers d = refl
-kind_of_start kind.Counter numbers d = refl
-kind_of_start kind.Set numbers d = refl
-kind_of_start kind.Queue numbers d = refl
-kind_of_start kind.Directory numbers d = refl
-kind_of_start kind.Max numbers d = refl
+kind_of_start k numbers d = kind_of_form (form_of k) refl
+  where
+    kind_of_form : (form : ValueForm) → form_of k ≡ form → kind_of_value (form_start form numbers d).0 ≡ k
+    kind_of_form (value_form.Number m) h = number_of_kind k m _ h
+    kind_of_form value_form.Signed h = sym (only_signed k h)
+    kind_of_form value_form.Set h = sym (only_sets k h)
+    kind_of_form value_form.Queue h = sym (only_queues k h)
+    kind_of_form value_form.Directory h = sym (only_directories k h)
 
 -- the kinds of the starting values are those that the objects declare
 pub kinds_of_starts : (version : ℕ) (numbers : Numbers) (ds : Items) → kinds (starts_of version numbers ds).0 ≡ kinds_of version ds

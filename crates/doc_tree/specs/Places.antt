@@ -5,7 +5,9 @@ use Rattle.std.specs.Fmt.{decimal}
 use Rattle.serde_json.specs.Data.{Data, Items, no_items, item, Members, no_members, member}
 use Rattle.serde_json.specs.Find.{as_array, get}
 use Rattle.objects.specs.declared.kind.Kind.{Kind}
-use Rattle.objects.specs.declared.kind.Kind.TheVariants as kind
+use Rattle.objects.specs.declared.kind.ValueForm.{ValueForm}
+use Rattle.objects.specs.declared.kind.ValueForm.TheVariants as value_form
+use Rattle.objects.specs.Contents.{form_of}
 use Rattle.batch.specs.Names.{is_name}
 use Rattle.meaning.specs.declared.limits.TheConstants.{MAX_DEPTH}
 use Rattle.faults.specs.declared.fault.Fault.{Fault}
@@ -189,13 +191,16 @@ pairs_placed version earlier i no_items = nothing
 pairs_placed version earlier i (item d ds) = inside (item_at i) (itself (pair_asked version earlier d) nothing)
     (pairs_placed version (with_text (key_of d) earlier) (i + 1) ds)
 
+-- the start of an object whose kind has this form
+abbrev pub form_placed : ℕ → Kind → ValueForm → Data → Placed
+form_placed version k (value_form.Number m) d = itself (holds (is_some (number_start d)) (Start (Of k)) ∷ []) nothing
+form_placed version k value_form.Signed d = itself (holds (is_some (signed_start d)) (Start (Of k)) ∷ []) nothing
+form_placed version k value_form.Set d = array_placed (Start (Of k)) (elements_placed version [] 0) (as_array d)
+form_placed version k value_form.Queue d = array_placed (Start (Of k)) (entries_placed version 0) (as_array d)
+form_placed version k value_form.Directory d = array_placed (Start (Of k)) (pairs_placed version [] 0) (as_array d)
+
 unfoldable pub start_placed : ℕ → Kind → Data → Placed
-start_placed version kind.Account d = itself (holds (is_some (number_start d)) (Start (Of kind.Account)) ∷ []) nothing
-start_placed version kind.Counter d = itself (holds (is_some (signed_start d)) (Start (Of kind.Counter)) ∷ []) nothing
-start_placed version kind.Set d = array_placed (Start (Of kind.Set)) (elements_placed version [] 0) (as_array d)
-start_placed version kind.Queue d = array_placed (Start (Of kind.Queue)) (entries_placed version 0) (as_array d)
-start_placed version kind.Directory d = array_placed (Start (Of kind.Directory)) (pairs_placed version [] 0) (as_array d)
-start_placed version kind.Max d = itself (holds (is_some (number_start d)) (Start (Of kind.Max)) ∷ []) nothing
+start_placed version k d = form_placed version k (form_of k) d
 
 unfoldable pub object_placed : ℕ → Table → Data → Placed
 object_placed version names d =

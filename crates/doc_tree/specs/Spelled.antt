@@ -8,7 +8,9 @@ use Rattle.serde_json.specs.Find.{get, as_array, as_str}
 use Rattle.atoms.specs.Item.{item_cmp}
 use Rattle.atoms.specs.declared.item.Item.{Item}
 use Rattle.objects.specs.declared.kind.Kind.{Kind}
-use Rattle.objects.specs.declared.kind.Kind.TheVariants as kind
+use Rattle.objects.specs.declared.kind.ValueForm.{ValueForm}
+use Rattle.objects.specs.declared.kind.ValueForm.TheVariants as value_form
+use Rattle.objects.specs.Contents.{form_of, number_value}
 use Rattle.objects.specs.declared.value.Value.{Value}
 use Rattle.objects.specs.declared.value.Value.TheVariants as value
 use Rattle.meaning.specs.declared.template.Argument.{Argument}
@@ -237,15 +239,17 @@ abbrev pub bind_all : finite_map.FinMap item_cmp Item → List (Item × Item) �
 bind_all m [] = m
 bind_all m (e ∷ es) = bind_all (finite_map.insert m e.0 e.1) es
 
-unfoldable pub start_of : Kind → Numbers → Data → Value × Numbers
-start_of kind.Account numbers d = (value.Account (or_zero (number_start d)), numbers)
-start_of kind.Counter numbers d = (value.Counter (unwrap_or (signed_start d) (pos 0)), numbers)
-start_of kind.Set numbers d = spelled_map (λ items. value.Set (put_all finite_set.empty items))
+abbrev pub form_start : ValueForm → Numbers → Data → Value × Numbers
+form_start (value_form.Number k) numbers d = (number_value k (or_zero (number_start d)), numbers)
+form_start value_form.Signed numbers d = (value.Counter (unwrap_or (signed_start d) (pos 0)), numbers)
+form_start value_form.Set numbers d = spelled_map (λ items. value.Set (put_all finite_set.empty items))
     (entries_of numbers (or_no_items (as_array d)))
-start_of kind.Queue numbers d = spelled_map value.Queue (entries_of numbers (or_no_items (as_array d)))
-start_of kind.Directory numbers d = spelled_map (λ pairs. value.Directory (bind_all finite_map.empty pairs))
+form_start value_form.Queue numbers d = spelled_map value.Queue (entries_of numbers (or_no_items (as_array d)))
+form_start value_form.Directory numbers d = spelled_map (λ pairs. value.Directory (bind_all finite_map.empty pairs))
     (pairs_of numbers (or_no_items (as_array d)))
-start_of kind.Max numbers d = (value.Max (or_zero (number_start d)), numbers)
+
+unfoldable pub start_of : Kind → Numbers → Data → Value × Numbers
+start_of k numbers d = form_start (form_of k) numbers d
 
 abbrev pub starts_of : ℕ → Numbers → Items → State × Numbers
 starts_of version numbers no_items = ([], numbers)

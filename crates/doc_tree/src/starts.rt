@@ -8,9 +8,9 @@ ghost use Rattle.doc_tree.specs.Answer.{AreMet, IsFirst, IsFound, IsMet};
 ghost use Rattle.doc_tree.specs.Asked.{declared_by, element_asked, entry_asked, key_of, kind_in, names_of, number_start, object_kind, object_name, object_name_asked, object_shape_asked, pair_asked, part, signed_start, text_of, value_of};
 ghost use Rattle.doc_tree.specs.Heads.{new_start_asked, pair_names_asked};
 ghost use Rattle.doc_rules.specs.Limits.{limits_of};
-ghost use Rattle.doc_tree.specs.Places.{elements_placed, entries_placed, object_placed, objects_placed, pairs_placed, start_placed};
+ghost use Rattle.doc_tree.specs.Places.{elements_placed, entries_placed, object_placed, objects_placed, pairs_placed, form_placed, start_placed};
 ghost use Rattle.doc_tree.specs.Scope.{numbers_of, setting_of, with_item, with_text};
-ghost use Rattle.doc_tree.specs.Spelled.{bind_all, entries_of, item_of, pair_of, pairs_of, put_all, spelled_map, start_of, starts_of};
+ghost use Rattle.doc_tree.specs.Spelled.{bind_all, entries_of, item_of, pair_of, pairs_of, put_all, spelled_map, form_start, start_of, starts_of};
 
 use crate::arguments::{item_of, items_of};
 use crate::counts::Counts;
@@ -24,7 +24,7 @@ use batch::is_name;
 use doc_rules::{Failure, Form, NameRule, Rule, ShapeRule, StartRule};
 use indexmap::IndexSet;
 use meaning::limits::MAX_START;
-use objects::{Kind, Objects, Value as ObjectValue};
+use objects::{Kind, Objects, Value as ObjectValue, ValueForm};
 use serde_json::Value;
 use std::alloc::Global;
 use vocabulary::kind_of_text;
@@ -348,69 +348,71 @@ fn read_directory(
 }
 
 /// What a set starts with.
-#[tactic(auto, unfolding(crate::specs::Places::start_placed, crate::specs::Spelled::start_of))]
 fn read_set_start(
     alloc: Global,
+    kind: Kind,
     value: &Value,
     version: u8,
     counts: &mut Counts,
     numbering: &mut Numbering,
 ) -> Result<ObjectValue, Unmet>
-    ensures met { OnOk result (AreMet counts.old (start_placed version Kind.Set (view value.now))
+    ensures met { OnOk result (AreMet counts.old (form_placed version kind ValueForm.Set
+        (view value.now))
         counts.new) }
-    ensures unmet { IfErr result (IsFound counts.old (start_placed version Kind.Set
+    ensures unmet { IfErr result (IsFound counts.old (form_placed version kind ValueForm.Set
         (view value.now))) }
     ensures value { IfOk result (λ start. (start, numbers_of numbering.new)
-        ≡ start_of Kind.Set (numbers_of numbering.old) (view value.now)) }
+        ≡ form_start ValueForm.Set (numbers_of numbering.old) (view value.now)) }
 {
     let Some(list) = value.as_array() else {
-        return Err(Unmet::from(counts.broken(Rule::Start(StartRule::Of(Kind::Set)))));
+        return Err(Unmet::from(counts.broken(Rule::Start(StartRule::Of(kind)))));
     };
     let start = read_set(alloc, list, version, counts, numbering)?;
     Ok(ObjectValue::Set(start))
 }
 
 /// What a queue starts with.
-#[tactic(auto, unfolding(crate::specs::Places::start_placed, crate::specs::Spelled::start_of))]
 fn read_queue_start(
     alloc: Global,
+    kind: Kind,
     value: &Value,
     version: u8,
     counts: &mut Counts,
     numbering: &mut Numbering,
 ) -> Result<ObjectValue, Unmet>
-    ensures met { OnOk result (AreMet counts.old (start_placed version Kind.Queue (view value.now))
+    ensures met { OnOk result (AreMet counts.old (form_placed version kind ValueForm.Queue
+        (view value.now))
         counts.new) }
-    ensures unmet { IfErr result (IsFound counts.old (start_placed version Kind.Queue
+    ensures unmet { IfErr result (IsFound counts.old (form_placed version kind ValueForm.Queue
         (view value.now))) }
     ensures value { IfOk result (λ start. (start, numbers_of numbering.new)
-        ≡ start_of Kind.Queue (numbers_of numbering.old) (view value.now)) }
+        ≡ form_start ValueForm.Queue (numbers_of numbering.old) (view value.now)) }
 {
     let Some(list) = value.as_array() else {
-        return Err(Unmet::from(counts.broken(Rule::Start(StartRule::Of(Kind::Queue)))));
+        return Err(Unmet::from(counts.broken(Rule::Start(StartRule::Of(kind)))));
     };
     let start = read_queue(alloc, list, version, counts, numbering)?;
     Ok(ObjectValue::Queue(start))
 }
 
 /// What a directory starts with.
-#[tactic(auto, unfolding(crate::specs::Places::start_placed, crate::specs::Spelled::start_of))]
 fn read_directory_start(
     alloc: Global,
+    kind: Kind,
     value: &Value,
     version: u8,
     counts: &mut Counts,
     numbering: &mut Numbering,
 ) -> Result<ObjectValue, Unmet>
-    ensures met { OnOk result (AreMet counts.old (start_placed version Kind.Directory
+    ensures met { OnOk result (AreMet counts.old (form_placed version kind ValueForm.Directory
         (view value.now)) counts.new) }
-    ensures unmet { IfErr result (IsFound counts.old (start_placed version Kind.Directory
+    ensures unmet { IfErr result (IsFound counts.old (form_placed version kind ValueForm.Directory
         (view value.now))) }
     ensures value { IfOk result (λ start. (start, numbers_of numbering.new)
-        ≡ start_of Kind.Directory (numbers_of numbering.old) (view value.now)) }
+        ≡ form_start ValueForm.Directory (numbers_of numbering.old) (view value.now)) }
 {
     let Some(list) = value.as_array() else {
-        return Err(Unmet::from(counts.broken(Rule::Start(StartRule::Of(Kind::Directory)))));
+        return Err(Unmet::from(counts.broken(Rule::Start(StartRule::Of(kind)))));
     };
     let start = read_directory(alloc, list, version, counts, numbering)?;
     Ok(ObjectValue::Directory(start))
@@ -434,22 +436,20 @@ fn read_start(
     ensures value { IfOk result (λ start. (start, numbers_of numbering.new)
         ≡ start_of kind (numbers_of numbering.old) (view value.now)) }
 {
-    match kind {
-        Kind::Account => match number_start(value) {
-            Some(number) => Ok(ObjectValue::Account(number)),
+    match kind.form() {
+        ValueForm::Number(number_kind) => match number_start(value) {
+            Some(number) => Ok(number_kind.value(number)),
             None => Err(Unmet::from(counts.broken(Rule::Start(StartRule::Of(kind))))),
         },
-        Kind::Counter => match signed_start(value) {
+        ValueForm::Signed => match signed_start(value) {
             Some(number) => Ok(ObjectValue::Counter(number)),
             None => Err(Unmet::from(counts.broken(Rule::Start(StartRule::Of(kind))))),
         },
-        Kind::Max => match number_start(value) {
-            Some(number) => Ok(ObjectValue::Max(number)),
-            None => Err(Unmet::from(counts.broken(Rule::Start(StartRule::Of(kind))))),
-        },
-        Kind::Set => read_set_start(alloc, value, version, counts, numbering),
-        Kind::Queue => read_queue_start(alloc, value, version, counts, numbering),
-        Kind::Directory => read_directory_start(alloc, value, version, counts, numbering),
+        ValueForm::Set => read_set_start(alloc, kind, value, version, counts, numbering),
+        ValueForm::Queue => read_queue_start(alloc, kind, value, version, counts, numbering),
+        ValueForm::Directory => {
+            read_directory_start(alloc, kind, value, version, counts, numbering)
+        }
     }
 }
 

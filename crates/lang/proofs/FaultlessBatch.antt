@@ -2,7 +2,7 @@
 use Rattle.std.specs.FinMap as finite_map
 use Rattle.std.specs.FinSet as finite_set
 use Rattle.std.proofs.Common.{◌≡◌, ℕ, ◌+◌, ◌≤◌, ◌<◌, Bool, true, false, cond, ◌&&◌, List, [], ◌∷◌, ◌++◌, length, Option, None, Some, refl}
-use Rattle.std.proofs.Common.{sym, subst, ◌∙◌, arith}
+use Rattle.std.proofs.Common.{sym, ap, subst, ◌∙◌, arith}
 use Rattle.std.specs.Prelude.{ℤ, pos, negsuc, nat_abs, nat_le, codes, unwrap_or, option_and_then}
 use Rattle.std.proofs.lemmas.Bool.{leb-true, and_parts}
 use Rattle.std.proofs.Math.Nat.{max-le}
@@ -13,9 +13,12 @@ use Rattle.atoms.specs.Item.{item_cmp}
 use Rattle.atoms.proofs.Items.{items_total}
 use Rattle.atoms.specs.declared.item.Item.{Item}
 use Rattle.objects.specs.declared.kind.Kind.{Kind}
-use Rattle.objects.specs.declared.kind.Kind.TheVariants as kind
+use Rattle.objects.specs.declared.kind.ValueForm.{ValueForm}
+use Rattle.objects.specs.declared.kind.ValueForm.TheVariants as value_form
+use Rattle.objects.specs.Contents.{content_length, form_of}
+use Rattle.objects.proofs.KindLemmas.{number_held}
 use Rattle.meaning.specs.Trees as tree
-use Rattle.meaning.specs.WellFormed.{largest, size_of}
+use Rattle.meaning.specs.WellFormed.{content_size, largest, size_of}
 use Rattle.meaning.specs.Running.{all_operations}
 use Rattle.batch.specs.Limits.{AllWellFormed, AllShallow, IsBatch, all_nodes, all_entries_in, entries_in}
 use Rattle.doc_tree.specs.Demand.{no_counts}
@@ -25,13 +28,14 @@ use Rattle.meaning.specs.declared.limits.TheConstants.{MAX_DEPTH, MAX_ENTRIES, M
 use Rattle.doc_rules.specs.Limits.{limits_of}
 use Rattle.doc_tree.specs.Scope.{Numbers, Setting, Table, no_numbers}
 use Rattle.doc_tree.specs.Asked.{document_shape_asked, element_asked}
-use Rattle.doc_tree.specs.Asked.{entry_asked, kind_in, kinds_of, names_of, object_name, object_name_asked, object_shape_asked}
+use Rattle.doc_tree.specs.Asked.{entry_asked, kind_in, kinds_of, names_of, number_start, object_name, object_name_asked}
+use Rattle.doc_tree.specs.Asked.{object_shape_asked}
 use Rattle.doc_tree.specs.Asked.{objects_in, or_no_items, pair_asked, part, setting_in}
 use Rattle.doc_tree.specs.Asked.{signed_within}
 use Rattle.doc_tree.specs.Asked.{text_of, key_of, transactions_in, version_in}
 use Rattle.doc_tree.specs.Scope.{with_item, with_text}
 use Rattle.doc_tree.specs.Spelled.{bind_all, block_of, blocks_of, document_in, entries_of, or_zero, pair_of, pairs_of, parts_in, put_all}
-use Rattle.doc_tree.specs.Spelled.{start_of, starts_of}
+use Rattle.doc_tree.specs.Spelled.{form_start, start_of, starts_of}
 use Rattle.lang.proofs.Faultless.{block_good, counted, most_labels}
 use Rattle.lang.proofs.Later.{blocks_later, values_later}
 use Rattle.doc_rules.proofs.LimitLemmas.{limits_within}
@@ -41,7 +45,7 @@ use Rattle.lang.proofs.Numbered.{blocks_numbered}
 use Rattle.lang.proofs.NumberedStarts.{objects_named, starts_numbered}
 use Rattle.lang.proofs.Tables.{grows_behind, grows_on, texts_in}
 use Rattle.doc_tree.proofs.Demands.{array_start_asked, asked, block_asked, elements_asked, entries_asked, object_asked, objects_asked}
-use Rattle.doc_tree.proofs.Demands.{pairs_asked, start_asked, transactions_asked, faultless}
+use Rattle.doc_tree.proofs.Demands.{form_asked, pairs_asked, start_asked, transactions_asked, faultless}
 use Rattle.doc_tree.specs.Places.{first_fault, placed}
 
 -- ---- transactions
@@ -165,30 +169,31 @@ bind_all_len : (m : finite_map.FinMap item_cmp Item) (es : List (Item × Item))
 bind_all_len m [] = omega arith
 bind_all_len m (e ∷ es) = omega (arith, bind_all_len (finite_map.insert m e.0 e.1) es, bind_len m e.0 e.1)
 
-set_start : (version : ℕ) (numbers : Numbers) (o : Option Items)
+set_start : (version : ℕ) (k : Kind) (numbers : Numbers) (o : Option Items)
     → finite_set.len (put_all finite_set.empty (entries_of numbers (or_no_items o)).0)
-    ≤ count What.starts (array_start_asked kind.Set (elements_asked version []) o)
+    ≤ count What.starts (array_start_asked k (elements_asked version []) o)
 unfolding array_start_asked
-set_start version numbers None = omega (arith, finite_set.len-empty item_cmp)
-set_start version numbers (Some ds) = omega (
+set_start version k numbers None = omega (arith, finite_set.len-empty item_cmp)
+set_start version k numbers (Some ds) = omega (
   arith,
   finite_set.len-empty item_cmp,
   put_all_len finite_set.empty (entries_of numbers ds).0,
   elements_count version numbers [] ds,
 )
 
-queue_start : (version : ℕ) (numbers : Numbers) (o : Option Items) → length (entries_of numbers (or_no_items o)).0 ≤ count What.starts
-    (array_start_asked kind.Queue (entries_asked version) o)
+queue_start : (version : ℕ) (k : Kind) (numbers : Numbers) (o : Option Items)
+    → length (entries_of numbers (or_no_items o)).0 ≤ count What.starts
+    (array_start_asked k (entries_asked version) o)
 unfolding array_start_asked
-queue_start version numbers None = omega arith
-queue_start version numbers (Some ds) = omega (arith, entries_count version numbers ds)
+queue_start version k numbers None = omega arith
+queue_start version k numbers (Some ds) = omega (arith, entries_count version numbers ds)
 
-directory_start : (version : ℕ) (numbers : Numbers) (o : Option Items)
+directory_start : (version : ℕ) (k : Kind) (numbers : Numbers) (o : Option Items)
     → finite_map.len (bind_all finite_map.empty (pairs_of numbers (or_no_items o)).0)
-    ≤ count What.starts (array_start_asked kind.Directory (pairs_asked version []) o)
+    ≤ count What.starts (array_start_asked k (pairs_asked version []) o)
 unfolding array_start_asked
-directory_start version numbers None = omega (arith, finite_map.len-empty item_cmp Item)
-directory_start version numbers (Some ds) = omega (
+directory_start version k numbers None = omega (arith, finite_map.len-empty item_cmp Item)
+directory_start version k numbers (Some ds) = omega (
   arith,
   finite_map.len-empty item_cmp Item,
   bind_all_len finite_map.empty
@@ -196,15 +201,18 @@ directory_start version numbers (Some ds) = omega (
   pairs_count version numbers [] ds,
 )
 
+form_counts : (version : ℕ) (k : Kind) (form : ValueForm) (numbers : Numbers) (d : Data)
+    → entries_in (form_start form numbers d).0 ≤ count What.starts (form_asked version k form d)
+form_counts version k (value_form.Number m) numbers d = omega (arith, ap content_length (number_held m (or_zero (number_start d))))
+form_counts version k value_form.Signed numbers d = omega arith
+form_counts version k value_form.Set numbers d = set_start version k numbers (as_array d)
+form_counts version k value_form.Queue numbers d = queue_start version k numbers (as_array d)
+form_counts version k value_form.Directory numbers d = directory_start version k numbers (as_array d)
+
 start_counts : (version : ℕ) (k : Kind) (numbers : Numbers) (d : Data)
     → entries_in (start_of k numbers d).0 ≤ count What.starts (start_asked version k d)
 unfolding start_of start_asked
-start_counts version kind.Account numbers d = omega arith
-start_counts version kind.Counter numbers d = omega arith
-start_counts version kind.Set numbers d = set_start version numbers (as_array d)
-start_counts version kind.Queue numbers d = queue_start version numbers (as_array d)
-start_counts version kind.Directory numbers d = directory_start version numbers (as_array d)
-start_counts version kind.Max numbers d = omega arith
+start_counts version k numbers d = form_counts version k (form_of k) numbers d
 
 object_counts : (version : ℕ) (names : Table) (numbers : Numbers) (d : Data)
     → entries_in (start_of (kind_in version d) numbers (part (codes "start") d)).0 ≤ count What.starts (object_asked version names d)
@@ -249,14 +257,17 @@ signed_at_most most (Some z) = by (nat_le (nat_abs z) most) refl
     by true e = leb-true (nat_abs z) most e
     by false e = omega arith
 
+form_is_small : (form : ValueForm) (numbers : Numbers) (d : Data) → size_of (form_start form numbers d).0 ≤ MAX_START
+form_is_small (value_form.Number m) numbers d = subst (λ c. content_size c ≤ MAX_START) (sym (number_held m (or_zero (number_start d))))
+    (at_most MAX_START (whole d))
+form_is_small value_form.Signed numbers d = signed_at_most MAX_START (whole d)
+form_is_small value_form.Set numbers d = omega arith
+form_is_small value_form.Queue numbers d = omega arith
+form_is_small value_form.Directory numbers d = omega arith
+
 start_is_small : (k : Kind) (numbers : Numbers) (d : Data) → size_of (start_of k numbers d).0 ≤ MAX_START
 unfolding start_of
-start_is_small kind.Account numbers d = at_most MAX_START (whole d)
-start_is_small kind.Counter numbers d = signed_at_most MAX_START (whole d)
-start_is_small kind.Set numbers d = omega arith
-start_is_small kind.Queue numbers d = omega arith
-start_is_small kind.Directory numbers d = omega arith
-start_is_small kind.Max numbers d = at_most MAX_START (whole d)
+start_is_small k numbers d = form_is_small (form_of k) numbers d
 
 starts_are_small : (version : ℕ) (numbers : Numbers) (ds : Items) → largest (starts_of version numbers ds).0 ≤ MAX_START
 starts_are_small version numbers no_items = omega arith

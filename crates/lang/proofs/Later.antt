@@ -3,7 +3,7 @@ use Rattle.std.proofs.Common.{◌≤◌, ℕ, List, [], ◌∷◌, length, arith
 use Rattle.atoms.specs.declared.item.Item.{Item}
 use Rattle.objects.specs.declared.call.Call.{Call}
 use Rattle.objects.specs.declared.value.Value.{Value}
-use Rattle.objects.specs.declared.value.Value.TheVariants as value
+use Rattle.objects.specs.Contents.{Content, Number, Signed, Set, Queue, Directory, content_of}
 use Rattle.vocabulary.specs.Verbs.{ItemsAre, phrase_of}
 use Rattle.vocabulary.specs.declared.verb.Phrase.{Phrase}
 use Rattle.vocabulary.specs.declared.verb.Phrase.TheVariants.{OfAmount, OfItem, OfPair, Alone}
@@ -21,7 +21,7 @@ use Rattle.meaning.specs.Trees.{GoOn, Pass, Children, NoChild, Child}
 use Rattle.batch.specs.Names.{Texts}
 use Rattle.batch.specs.Named.{HasText, HasReason, IsNamedCall, IsNamedArgument, IsNamedRefusal, IsNamedTemplate, IsNamedTest, IsNamed}
 use Rattle.batch.specs.Named.{IsNamedStep, AreNamed, AllNamed}
-use Rattle.batch.specs.Named.{AreNamedHandlers, IsNamedValue, AllNamedValues}
+use Rattle.batch.specs.Named.{AreNamedHandlers, IsNamedContent, IsNamedValue, AllNamedValues}
 
 module _ (texts more : Texts) (items : length texts.items ≤ length more.items) (reasons : length texts.reasons ≤ length more.reasons) where
   item_later : (x : Item) → HasText texts x → HasText more x
@@ -93,13 +93,15 @@ module _ (texts more : Texts) (items : length texts.items ≤ length more.items)
   blocks_later [] named = tt
   blocks_later (block ∷ blocks) named = (block_later block named.0, blocks_later blocks named.1)
 
+  content_later : (c : Content) → IsNamedContent texts c → IsNamedContent more c
+  content_later (Number n) named = tt
+  content_later (Signed n) named = tt
+  content_later (Set s) named = λ x is. item_later x (named x is)
+  content_later (Queue q) named = λ k x lt. item_later _ (named k x lt)
+  content_later (Directory d) named = λ k x is. let both = named k x is in (item_later k both.0, item_later x both.1)
+
   pub value_later : (v : Value) → IsNamedValue texts v → IsNamedValue more v
-  value_later (value.Account n) named = tt
-  value_later (value.Counter n) named = tt
-  value_later (value.Set s) named = λ x is. item_later x (named x is)
-  value_later (value.Queue q) named = λ k x lt. item_later _ (named k x lt)
-  value_later (value.Directory d) named = λ k x is. let both = named k x is in (item_later k both.0, item_later x both.1)
-  value_later (value.Max n) named = tt
+  value_later v named = content_later (content_of v) named
 
   pub values_later : (values : List Value) → AllNamedValues texts values → AllNamedValues more values
   values_later [] named = tt

@@ -17,7 +17,7 @@ use Rattle.doc_tree.specs.Places.{Found, fault_in, first_fault, placed, seek}
 use Rattle.lang.specs.declared.misread.Misread.{Misread}
 use Rattle.lang.specs.declared.places.Place.{Place}
 use Rattle.lang.specs.declared.places.Place.TheVariants.{Whole, Pointer, LineColumn}
-use Rattle.lang.specs.Found.{IsFirstIn, IsFoundAt, IsMistake, IsShort, IsToldAt, IsToldOf, IsTooLong, Shows, Tells, found_by, part_at}
+use Rattle.lang.specs.Found.{IsFirstIn, IsFoundAt, IsMistake, IsShort, IsToldAt, IsToldOf, IsTooLong, Shows, TellsPlace, found_by, part_at}
 use Rattle.lang.specs.Reading.{reading, spelled_by, value_of, version_by}
 use Rattle.lang.proofs.SpelledLemmas.{found_there, reads_short, refused_for_first}
 
@@ -44,7 +44,7 @@ faults_alike found fault r failed is = let both : Some (fault_of found.failure) 
 -- what is said of the first demand that isn't met is said of the fault
 pub mistake_told : (bytes : List ℕ) (d : Data) (fault : Fault) (found : Found) (place : Place) (words : List ℕ) (start : Counts)
     → reading bytes ≡ Err fault → IsShort bytes → value_of bytes ≡ Some d
-    → start ≡ no_counts → seek start (placed d) ≡ Err found → Tells d found place words
+    → start ≡ no_counts → seek start (placed d) ≡ Err found → TellsPlace d found place words
     → IsMistake bytes fault place words
 mistake_told bytes d fault found place words start reads short known begun failed (pointer, shown, told) = by place shown
   where

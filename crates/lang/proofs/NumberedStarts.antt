@@ -11,20 +11,23 @@ use Rattle.atoms.specs.Item.{item_cmp}
 use Rattle.atoms.specs.declared.item.Item.{Item}
 use Rattle.atoms.proofs.Items.{alike_is, items_total}
 use Rattle.objects.specs.declared.kind.Kind.{Kind}
-use Rattle.objects.specs.declared.kind.Kind.TheVariants as kind
+use Rattle.objects.specs.declared.kind.ValueForm.{ValueForm}
+use Rattle.objects.specs.declared.kind.ValueForm.TheVariants as value_form
+use Rattle.objects.specs.Contents.{form_of}
+use Rattle.objects.proofs.KindLemmas.{number_held}
 use Rattle.batch.specs.Names.{AreNames, Texts, is_name}
-use Rattle.batch.specs.Named.{AllNamedValues, HasText, IsNamedValue}
+use Rattle.batch.specs.Named.{AllNamedValues, HasText, IsNamedContent, IsNamedValue}
 use Rattle.doc_tree.specs.Scope.{Numbers, Table, with_item, with_text}
-use Rattle.doc_tree.specs.Asked.{element_asked, entry_asked, key_of, kind_in, names_of}
+use Rattle.doc_tree.specs.Asked.{element_asked, entry_asked, key_of, kind_in, names_of, number_start}
 use Rattle.doc_tree.specs.Asked.{object_name, object_name_asked, object_shape_asked, or_no_items, pair_asked}
 use Rattle.doc_tree.specs.Asked.{part, text_of, value_of}
-use Rattle.doc_tree.specs.Spelled.{bind_all, entries_of, item_of, pairs_of, put_all, start_of, starts_of}
+use Rattle.doc_tree.specs.Spelled.{bind_all, entries_of, item_of, or_zero, pairs_of, put_all, form_start, start_of, starts_of}
 use Rattle.lang.proofs.Later.{value_later}
 use Rattle.doc_tree.proofs.MetLemmas.{AllMet, first_met, rest_met}
 use Rattle.doc_merge.proofs.NumberedTexts.{number_below}
 use Rattle.lang.proofs.Tables.{Numbered, grows_behind, grows_both, grows_item, grows_none, grows_on, texts_in}
 use Rattle.doc_tree.proofs.Demands.{array_start_asked, elements_asked, entries_asked, object_asked, objects_asked, pairs_asked}
-use Rattle.doc_tree.proofs.Demands.{start_asked}
+use Rattle.doc_tree.proofs.Demands.{form_asked, start_asked}
 
 AllHave : Texts → List Item → Type 0
 AllHave texts [] = ⊤
@@ -124,24 +127,25 @@ pairs_numbered version numbers earlier (item d ds) =
 
 -- ---- values
 
-set_numbered : (version : ℕ) (numbers : Numbers) (o : Option Items) → Numbered version AllHave numbers (entries_of numbers (or_no_items o))
-    (array_start_asked kind.Set (elements_asked version []) o)
+set_numbered : (version : ℕ) (k : Kind) (numbers : Numbers) (o : Option Items)
+    → Numbered version AllHave numbers (entries_of numbers (or_no_items o))
+    (array_start_asked k (elements_asked version []) o)
 unfolding array_start_asked AllHave
-set_numbered version numbers None = record { named = tt; grows = grows_none numbers _ }
-set_numbered version numbers (Some ds) = elements_numbered version numbers [] ds
+set_numbered version k numbers None = record { named = tt; grows = grows_none numbers _ }
+set_numbered version k numbers (Some ds) = elements_numbered version numbers [] ds
 
-queue_numbered : (version : ℕ) (numbers : Numbers) (o : Option Items)
-    → Numbered version AllHave numbers (entries_of numbers (or_no_items o)) (array_start_asked kind.Queue (entries_asked version) o)
+queue_numbered : (version : ℕ) (k : Kind) (numbers : Numbers) (o : Option Items)
+    → Numbered version AllHave numbers (entries_of numbers (or_no_items o)) (array_start_asked k (entries_asked version) o)
 unfolding array_start_asked AllHave
-queue_numbered version numbers None = record { named = tt; grows = grows_none numbers _ }
-queue_numbered version numbers (Some ds) = entries_numbered version numbers ds
+queue_numbered version k numbers None = record { named = tt; grows = grows_none numbers _ }
+queue_numbered version k numbers (Some ds) = entries_numbered version numbers ds
 
-directory_numbered : (version : ℕ) (numbers : Numbers) (o : Option Items)
+directory_numbered : (version : ℕ) (k : Kind) (numbers : Numbers) (o : Option Items)
     → Numbered version AllPairsHave numbers (pairs_of numbers (or_no_items o))
-    (array_start_asked kind.Directory (pairs_asked version []) o)
+    (array_start_asked k (pairs_asked version []) o)
 unfolding array_start_asked AllPairsHave
-directory_numbered version numbers None = record { named = tt; grows = grows_none numbers _ }
-directory_numbered version numbers (Some ds) = pairs_numbered version numbers [] ds
+directory_numbered version k numbers None = record { named = tt; grows = grows_none numbers _ }
+directory_numbered version k numbers (Some ds) = pairs_numbered version numbers [] ds
 
 none_inside : (texts : Texts) (x : Item) → finite_set.contains (finite_set.empty {R = item_cmp}) x ≡ true → HasText texts x
 none_inside texts x is = let none = finite_set.contains-empty item_cmp x in absurd cc
@@ -150,28 +154,34 @@ none_bound : (texts : Texts) (k x : Item) → finite_map.get (finite_map.empty {
     × HasText texts x
 none_bound texts k x is = let none = finite_map.get-empty {X = Item} item_cmp k in absurd cc
 
-start_numbered : (version : ℕ) (k : Kind) (numbers : Numbers) (d : Data)
-    → Numbered version IsNamedValue numbers (start_of k numbers d) (start_asked version k d)
-unfolding start_of start_asked
-start_numbered version kind.Account numbers d = record { named = tt; grows = grows_none numbers _ }
-start_numbered version kind.Counter numbers d = record { named = tt; grows = grows_none numbers _ }
-start_numbered version kind.Set numbers d =
-    let it = set_numbered version numbers (as_array d) in
+form_numbered : (version : ℕ) (k : Kind) (form : ValueForm) (numbers : Numbers) (d : Data)
+    → Numbered version IsNamedValue numbers (form_start form numbers d) (form_asked version k form d)
+form_numbered version k (value_form.Number m) numbers d = record {
+  named = subst (IsNamedContent (texts_in numbers)) (sym (number_held m (or_zero (number_start d)))) tt;
+  grows = grows_none numbers _;
+}
+form_numbered version k value_form.Signed numbers d = record { named = tt; grows = grows_none numbers _ }
+form_numbered version k value_form.Set numbers d =
+    let it = set_numbered version k numbers (as_array d) in
     let entries = entries_of numbers (or_no_items (as_array d)) in
     record {
       named = put_all_has (texts_in entries.1) entries.0 finite_set.empty (none_inside (texts_in entries.1)) it.named;
       grows =
           it.grows;
     }
-start_numbered version kind.Queue numbers d =
-    let it = queue_numbered version numbers (as_array d) in
+form_numbered version k value_form.Queue numbers d =
+    let it = queue_numbered version k numbers (as_array d) in
     let entries = entries_of numbers (or_no_items (as_array d)) in
     record { named = each_has (texts_in entries.1) entries.0 it.named; grows = it.grows }
-start_numbered version kind.Directory numbers d =
-    let it = directory_numbered version numbers (as_array d) in
+form_numbered version k value_form.Directory numbers d =
+    let it = directory_numbered version k numbers (as_array d) in
     let pairs = pairs_of numbers (or_no_items (as_array d)) in
     record { named = bind_all_has (texts_in pairs.1) pairs.0 finite_map.empty (none_bound (texts_in pairs.1)) it.named; grows = it.grows }
-start_numbered version kind.Max numbers d = record { named = tt; grows = grows_none numbers _ }
+
+start_numbered : (version : ℕ) (k : Kind) (numbers : Numbers) (d : Data)
+    → Numbered version IsNamedValue numbers (start_of k numbers d) (start_asked version k d)
+unfolding start_of start_asked
+start_numbered version k numbers d = form_numbered version k (form_of k) numbers d
 
 pub starts_numbered : (version : ℕ) (names : Table) (numbers : Numbers) (ds : Items) → Numbered version AllNamedValues numbers
     (starts_of version numbers ds) (objects_asked version names ds)

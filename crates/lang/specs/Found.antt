@@ -71,8 +71,8 @@ pub record IsToldAt (part : Data) (rule : Rule) (pointer : List ℕ) (place : Pl
   pub said : IsSaid rule part words
 
 -- that is said of what was found in a value, at the place that is shown
-abbrev pub Tells : Data → Found → Place → List ℕ → Type 0
-Tells value found place words = (pointer : List ℕ) × Shows pointer place × IsToldOf value found pointer words
+abbrev pub TellsPlace : Data → Found → Place → List ℕ → Type 0
+TellsPlace value found place words = (pointer : List ℕ) × Shows pointer place × IsToldOf value found pointer words
 
 -- ---- a value that is read a part at a time; no public contract names it
 

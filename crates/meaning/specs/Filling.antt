@@ -1,15 +1,12 @@
 -- Calls whose arguments come from labels, and what a refused call does.
-use Rattle.std.specs.Prelude.{ℕ, Bool, true, false, List, Option, Some, None, option_map, slice_get, if◌then◌else◌}
+use Rattle.std.specs.Prelude.{ℕ, Bool, List, Option, Some, None, option_map, slice_get, if◌then◌else◌}
 use Rattle.std.specs.Option.{option_and_then}
 use Rattle.atoms.specs.declared.amount.Amount.{Amount}
 use Rattle.atoms.specs.declared.item.Item.{Item}
 use Rattle.objects.specs.declared.call.Call.{Call}
 use Rattle.objects.specs.declared.call.Reply.{Reply}
-use Rattle.objects.specs.declared.call.Reply.TheVariants.{Account, Set, Queue, Directory}
-use Rattle.atoms.specs.declared.account.AccountReply.TheVariants as account
-use Rattle.atoms.specs.declared.item_set.SetReply.TheVariants as set
-use Rattle.atoms.specs.declared.queue.QueueReply.TheVariants as queue
-use Rattle.atoms.specs.declared.directory.DirectoryReply.TheVariants as directory
+use Rattle.vocabulary.specs.Responses.{response_of, response_word}
+use Rattle.vocabulary.specs.Words.{refuses}
 use Rattle.vocabulary.specs.Verbs.{amount_call, item_call, pair_call, verb_of}
 use Rattle.vocabulary.specs.declared.verb.PairVerb.{PairVerb}
 use Rattle.vocabulary.specs.declared.verb.Verb.{Verb}
@@ -25,7 +22,7 @@ use Rattle.meaning.specs.declared.template.Refusal.TheVariants.{GoesOn, Aborts}
 use Rattle.meaning.specs.declared.end.End.{End}
 use Rattle.meaning.specs.declared.end.End.TheVariants.{Ended, Aborted}
 use Rattle.meaning.specs.Amounts.{number_amount}
-use Rattle.meaning.specs.Labels.{reply_item, reply_number}
+use Rattle.meaning.specs.Labels.{if_there, reply_item, reply_number}
 
 abbrev pub template_verb : Template → Verb
 template_verb (Given call) = verb_of call
@@ -66,14 +63,7 @@ fill labels (OfPair v key item) = pair_of v (item_of labels key) (item_of labels
 -- ---- refusals
 
 abbrev pub is_refusal : Reply → Bool
-is_refusal (Account account.No) = true
-is_refusal (Set set.Present) = true
-is_refusal (Set set.Absent) = true
-is_refusal (Set set.No) = true
-is_refusal (Queue queue.Empty) = true
-is_refusal (Directory directory.Taken) = true
-is_refusal (Directory directory.Missing) = true
-is_refusal reply = false
+is_refusal reply = if_there (response_word (response_of reply)) refuses
 
 -- the reason for which a step aborts
 abbrev pub reason_for : Refusal → Option ℕ

@@ -10,7 +10,7 @@ use Rattle.std.proofs.Math.ListN.{get_or-map}
 use Rattle.std.proofs.lemmas.Bool.{cases_lt}
 use Rattle.std.proofs.lemmas.List.{get_or_append_left, get_or_push, length-append, length-map}
 use Rattle.report.specs.declared.cuts.Cut.{Cut}
-use Rattle.report.specs.Parts.{AreCuts, IsBefore, IsPart, start}
+use Rattle.report.specs.Parts.{AreCuts, IsBefore, IsPartBetween, start}
 
 pub before_same : (cut : Cut) → IsBefore cut cut
 before_same cut = record { entry = omega arith; line = λ same. omega arith }
@@ -92,12 +92,12 @@ followed lines cut (text ∷ texts) each =
 pub all_parts : {E : Type 0} (lines : Cut → List ℕ) (end_cut : Cut) (cuts : List Cut) (made : List (Result (String Global) E))
     (texts : List (String Global))
     → AreCuts end_cut cuts → lines end_cut ≡ [] → length made + 1 ≡ length cuts → map Ok texts ≡ made
-    → ((i : ℕ) (d : Result (String Global) E) → i < length made → IfOk (get_or made i d) (λ t. IsPart lines cuts i (string_bytes t)))
+    → ((i : ℕ) (d : Result (String Global) E) → i < length made → IfOk (get_or made i d) (λ t. IsPartBetween lines cuts i (string_bytes t)))
     → flat_map string_bytes texts ≡ lines start
 all_parts {E} lines end_cut cuts made texts are none long is each =
     let same : length texts ≡ length made = sym (length-map texts Ok) ∙ ap (λ l. length l) is in
-    let at : (i : ℕ) (d : String Global) → i < length texts → IsPart lines cuts i (string_bytes (get_or texts i d)) = λ i d lt.
-    subst (λ r. IfOk r (λ t. IsPart lines cuts i (string_bytes t)))
+    let at : (i : ℕ) (d : String Global) → i < length texts → IsPartBetween lines cuts i (string_bytes (get_or texts i d)) = λ i d lt.
+    subst (λ r. IfOk r (λ t. IsPartBetween lines cuts i (string_bytes t)))
     (ap (λ l. get_or l i (Ok d)) (sym is) ∙ get_or-map Ok texts i d) (each i (Ok d) (omega (arith, lt, same))) in
     let end : lines (get_or cuts (length texts) start) ≡ [] =
     ap (λ i. lines (get_or cuts i start)) (omega (arith, same, long)) ∙ ap lines are.last ∙ none in

@@ -1,39 +1,17 @@
--- Maps of sorted entries, and sets of sorted items.
-use Rattle.std.proofs.Common.{◌≡◌, List, [], ◌∷◌, map, Bool, true, false, cond, ◌&&◌, ◌||◌, T, refl, ap, ◌∙◌, sym, subst, Ordering, Less}
+-- Sets of sorted items.
+use Rattle.std.proofs.Common.{◌≡◌, List, [], ◌∷◌, map, Bool, true, false, cond, ◌||◌, refl, ap, ◌∙◌, sym, subst}
 use Rattle.std.proofs.Common.{Option, Some, None}
-use Rattle.std.specs.Ordering.{is_lt, eq_by_cmp}
-use Rattle.std.specs.Cmp.{IsTotalOrder}
-use Rattle.std.specs.List.{AllByRecursion, list_any}
+use Rattle.std.specs.Ordering.{eq_by_cmp}
+use Rattle.std.specs.List.{list_any}
 use Rattle.std.specs.List.Sorted.{IsStrictlySortedBy}
-use Rattle.std.specs.FinMap.{IsAntisymmetric, entries, keys, from_entries, from_sorted, find, is_sorted, same_map, get-from_entries}
+use Rattle.std.specs.FinMap.{keys, from_entries, from_sorted, find, same_map, get-from_entries}
 use Rattle.std.specs.FinMap.{get-from_sorted, entries-from_sorted}
-use Rattle.std.specs.FinMap.Entries.{below_all}
 use Rattle.std.specs.FinSet as finite_set
 use Rattle.atoms.specs.Item.{item_cmp}
 use Rattle.atoms.proofs.Items.{items_total, items_antisymmetric}
+use Rattle.atoms.proofs.SortedLemmas.{rises}
 use Rattle.atoms.specs.declared.item.Item.{Item}
 use Rattle.meaning.specs.Words.{members}
-
-module _ {K X : Type 0} (R : K → K → Ordering) where
-  below_is : (x : K) (es : List (K × X)) → AllByRecursion (λ y. R x y ≡ Less) (map (λ e. e.0) es) → below_all R x es ≡ true
-  below_is x [] below = refl
-  below_is x (e ∷ es) below = ap (λ r. is_lt r && below_all R x es) below.0 ∙ below_is x es below.1
-
-  sorted_is : (es : List (K × X)) → IsStrictlySortedBy R (map (λ e. e.0) es) → is_sorted R es ≡ true
-  unfolding IsStrictlySortedBy
-  sorted_is [] sorted = refl
-  sorted_is (e ∷ es) sorted = ap (λ b. b && is_sorted R es) (below_is e.0 es sorted.0) ∙ sorted_is es sorted.1
-
-  rises : (es : List (K × X)) → IsStrictlySortedBy R (map (λ e. e.0) es) → T (is_sorted R es)
-  rises es sorted = subst T (sym (sorted_is es sorted)) tt
-
-  -- the map of sorted entries has just these
-  pub entries-sorted : IsTotalOrder R → IsAntisymmetric R → (es : List (K × X)) → IsStrictlySortedBy R (map (λ e. e.0) es)
-      → entries (from_entries {R = R} es) ≡ es
-  entries-sorted total same es sorted =
-      ap entries (same_map total same (from_entries es) (from_sorted es) (λ q. get-from_entries total es q
-      ∙ sym (get-from_sorted R es q (rises es sorted))))
-      ∙ entries-from_sorted R es (rises es sorted)
 
 abbrev as_entries : List Item → List (Item × Unit {0})
 as_entries xs = map (λ x. (x, tt)) xs

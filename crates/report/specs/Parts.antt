@@ -76,5 +76,5 @@ pub record AreCuts (end_cut : Cut) (cuts : List Cut) : Type 0 where
   pub last : slice_index_or cuts (length cuts - 1) start ≡ end_cut
 
 -- the text of the i-th part: before the lines from the next cut on it has those from its own
-abbrev pub IsPart : (Cut → List ℕ) → List Cut → ℕ → List ℕ → Type 0
-IsPart lines cuts i text = text ++ lines (slice_index_or cuts (i + 1) start) ≡ lines (slice_index_or cuts i start)
+abbrev pub IsPartBetween : (Cut → List ℕ) → List Cut → ℕ → List ℕ → Type 0
+IsPartBetween lines cuts i text = text ++ lines (slice_index_or cuts (i + 1) start) ≡ lines (slice_index_or cuts i start)

@@ -1,18 +1,16 @@
 //! Writes calls and replies.
 ghost use Rattle.std.specs.Prelude.{◌≡◌, ◌++◌, ◌<◌, OnOk, codes, string_bytes};
 ghost use Rattle.std.specs.Fmt.{decimal, signed_decimal};
-ghost use Rattle.meaning.specs.Words.{call_text, reply_text};
+ghost use Rattle.meaning.specs.Words.{call_text, reply_text, response_text};
 ghost use Rattle.vocabulary.specs.Verbs.{verb_text};
 ghost use Rattle.batch.specs.Names.{names_of};
 
 use crate::names::item_name;
-use atoms::{
-    AccountReply, Amount, CounterReply, DirectoryReply, Item, MaxReply, QueueReply, SetReply,
-};
+use atoms::{Amount, Item};
 use batch::Names;
 use objects::{Call, Reply};
 use serial::NoMemory;
-use vocabulary::{Phrase, Verb, Word, phrase_of};
+use vocabulary::{Phrase, Response, Verb, phrase_of, response_of};
 
 /// Writes the words of a call.
 pub fn write_call(out: &mut String, names: &Names, call: &Call) -> Result<(), NoMemory>
@@ -39,38 +37,26 @@ pub fn write_reply(out: &mut String, names: &Names, reply: &Reply) -> Result<(),
     ensures { OnOk result (string_bytes out.new ≡ string_bytes out.old
         ++ reply_text (names_of names.now) reply.now) }
 {
-    match reply {
-        Reply::Account(AccountReply::Number(number))
-        | Reply::Set(SetReply::Number(number))
-        | Reply::Queue(QueueReply::Number(number))
-        | Reply::Max(MaxReply::Number(number)) => write_natural(out, *number),
-        Reply::Counter(CounterReply::Number(number)) => write_integer(out, *number),
-        Reply::Queue(QueueReply::Got(item)) => {
-            write_word(out, Word::Got.text())?;
-            write_item(out, names, *item)
+    write_response(out, names, response_of(reply))
+}
+
+/// Writes a reply as it is said.
+pub(crate) fn write_response(
+    out: &mut String,
+    names: &Names,
+    response: Response,
+) -> Result<(), NoMemory>
+    ensures { OnOk result (string_bytes out.new ≡ string_bytes out.old
+        ++ response_text (names_of names.now) response) }
+{
+    match response {
+        Response::Word(word) => write_word(out, word.text()),
+        Response::WithItem(word, item) => {
+            write_word(out, word.text())?;
+            write_item(out, names, item)
         }
-        Reply::Directory(DirectoryReply::Found(item)) => {
-            write_word(out, Word::Found.text())?;
-            write_item(out, names, *item)
-        }
-        Reply::Account(AccountReply::Ok)
-        | Reply::Counter(CounterReply::Ok)
-        | Reply::Queue(QueueReply::Ok)
-        | Reply::Directory(DirectoryReply::Ok)
-        | Reply::Max(MaxReply::Ok) => write_word(out, Word::Ok.text()),
-        Reply::Account(AccountReply::No) | Reply::Set(SetReply::No) => {
-            write_word(out, Word::No.text())
-        }
-        Reply::Set(SetReply::Added) => write_word(out, Word::Added.text()),
-        Reply::Set(SetReply::Present) => write_word(out, Word::Present.text()),
-        Reply::Set(SetReply::Removed) => write_word(out, Word::Removed.text()),
-        Reply::Set(SetReply::Absent) => write_word(out, Word::Absent.text()),
-        Reply::Set(SetReply::Yes) => write_word(out, Word::Yes.text()),
-        Reply::Queue(QueueReply::Empty) => write_word(out, Word::Empty.text()),
-        Reply::Directory(DirectoryReply::Bound) => write_word(out, Word::Bound.text()),
-        Reply::Directory(DirectoryReply::Taken) => write_word(out, Word::Taken.text()),
-        Reply::Directory(DirectoryReply::Gone) => write_word(out, Word::Gone.text()),
-        Reply::Directory(DirectoryReply::Missing) => write_word(out, Word::Missing.text()),
+        Response::Number(number) => write_natural(out, number),
+        Response::Signed(number) => write_integer(out, number),
     }
 }
 

@@ -3,7 +3,7 @@ ghost use Rattle.std.specs.Prelude.{◌<◌, ◌≤◌, ◌^◌, IfOk, length};
 ghost use Rattle.report.specs.Parts.{AreCuts, IsBefore};
 
 use batch::{Record, Taken};
-use objects::{Objects, Value};
+use objects::Objects;
 use serial::NoMemory;
 use std::alloc::Global;
 
@@ -155,7 +155,7 @@ fn pass_objects(
     }
     for line in from.line..end.line {
         let lines = match objects.value(line as u32) {
-            Some(value) => (entries_of(value) / ENTRIES).saturating_add(1),
+            Some(value) => (value.content().len() / ENTRIES).saturating_add(1),
             None => 1,
         };
         if wanted.saturating_sub(passed).saturating_mul(2) < lines {
@@ -165,16 +165,6 @@ fn pass_objects(
         passed = passed.saturating_add(lines);
     }
     (end, passed)
-}
-
-// How many entries the value of an object has.
-fn entries_of(value: &Value) -> usize {
-    match value {
-        Value::Account(_) | Value::Counter(_) | Value::Max(_) => 0,
-        Value::Set(set) => set.items().len(),
-        Value::Queue(queue) => queue.items().len(),
-        Value::Directory(directory) => directory.entries().len(),
-    }
 }
 
 /// About how many lines are between two cuts.

@@ -6,14 +6,14 @@ ghost use Rattle.meaning.specs.Texts.{abort_line, line, reason_text, refusal_tex
 ghost use Rattle.batch.specs.Names.{names_of};
 ghost use Rattle.batch.specs.Views.{block_view, record_view, step_view, taken_view, subaction_view, tried_view, children_view, all_tried_view};
 
-use crate::calls::{write_call, write_natural, write_reply};
+use crate::calls::{write_call, write_natural, write_response};
 use crate::names::{object_name, reason_name};
 use crate::paths::{branch_end, count_up, push_handler, push_part, reason_of};
-use atoms::{AccountReply, CounterReply, DirectoryReply, MaxReply, QueueReply};
 use batch::{Block, Names, Record, Step, Subaction, Taken, end_after, reason_for};
 use meaning::End;
 use objects::{Call, Reply};
 use serial::NoMemory;
+use vocabulary::{Response, Word, response_of};
 
 // Writes the lines of the steps of a block, whose path is `path` and then `end`. The paths of its
 // steps are made in the text of `path`, which is as before after `Ok`.
@@ -217,15 +217,11 @@ fn write_line_end(out: &mut String, names: &Names, reply: &Reply) -> Result<(), 
     ensures { OnOk result (string_bytes out.new
         ≡ string_bytes out.old ++ line (codes " = " ++ reply_text (names_of names.now) reply.now)) }
 {
-    match reply {
-        Reply::Account(AccountReply::Ok)
-        | Reply::Counter(CounterReply::Ok)
-        | Reply::Queue(QueueReply::Ok)
-        | Reply::Directory(DirectoryReply::Ok)
-        | Reply::Max(MaxReply::Ok) => out.push_str(" = ok\n")?,
-        _ => {
+    match response_of(reply) {
+        Response::Word(Word::Ok) => out.push_str(" = ok\n")?,
+        response => {
             out.push_str(" = ")?;
-            write_reply(out, names, reply)?;
+            write_response(out, names, response)?;
             out.push('\n')?;
         }
     }

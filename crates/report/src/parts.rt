@@ -4,7 +4,7 @@ ghost use Rattle.std.specs.List.{flat_map};
 ghost use Rattle.meaning.specs.Texts.{plain_text, text, audit_text};
 ghost use Rattle.batch.specs.Names.{names_of};
 ghost use Rattle.batch.specs.Views.{block_view, record_view};
-ghost use Rattle.report.specs.Parts.{AreCuts, IsPart, last_cut, lines_from};
+ghost use Rattle.report.specs.Parts.{AreCuts, IsPartBetween, last_cut, lines_from};
 
 use crate::answer::{last_cut, render_between, render_entries, write_counts};
 use crate::cuts::{Cut, cuts_of};
@@ -140,14 +140,14 @@ fn render_each<R: Threads + Sync>(
         cuts.now }
     ensures count { IfOk result (λ made. length made.items + 1 ≡ length cuts.now) }
     ensures each { IfOk result (λ made. (i : ℕ) (d : _) → i < length made.items
-        → IfOk (slice_index_or made.items i d) (λ t. IsPart (lines_from
+        → IfOk (slice_index_or made.items i d) (λ t. IsPartBetween (lines_from
         (names_of batch.now.names) batch.now.transactions.items records.now objects.now)
         cuts.now i (string_bytes t))) }
 {
     let render = |part: usize| -> Result<String, NoMemory>
         requires { (length objects.now < 2 ^ 32) × (part + 1 < length cuts.now)
             × AreCuts (last_cut batch.now.transactions.items records.now objects.now) cuts.now }
-        ensures { IfOk result (λ t. IsPart (lines_from (names_of batch.entry.now.names)
+        ensures { IfOk result (λ t. IsPartBetween (lines_from (names_of batch.entry.now.names)
             batch.entry.now.transactions.items records.entry.now objects.entry.now)
             cuts.entry.now part (string_bytes t)) }
     {

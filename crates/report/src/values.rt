@@ -7,7 +7,7 @@ ghost use Rattle.batch.specs.Names.{names_of};
 use crate::names::item_name;
 use atoms::{Directory, Item, ItemSet, Queue};
 use batch::Names;
-use objects::Value;
+use objects::{Content, Value};
 use serial::NoMemory;
 
 /// Writes the value of an object: members and keys in order.
@@ -15,20 +15,20 @@ pub(crate) fn write_value(out: &mut String, names: &Names, value: &Value) -> Res
     ensures { OnOk result (string_bytes out.new ≡ string_bytes out.old
         ++ value_text (names_of names.now) value.now) }
 {
-    match value {
-        Value::Account(number) | Value::Max(number) => write!(out, "{number}")?,
-        Value::Counter(number) => write!(out, "{number}")?,
-        Value::Set(set) => {
+    match value.content() {
+        Content::Number(number) => write!(out, "{number}")?,
+        Content::Signed(number) => write!(out, "{number}")?,
+        Content::Set(set) => {
             write!(out, "{{")?;
             write_members(out, names, set)?;
             write!(out, "}}")?;
         }
-        Value::Queue(queue) => {
+        Content::Queue(queue) => {
             write!(out, "[")?;
             write_queue(out, names, queue)?;
             write!(out, "]")?;
         }
-        Value::Directory(directory) => {
+        Content::Directory(directory) => {
             write!(out, "{{")?;
             write_bindings(out, names, directory)?;
             write!(out, "}}")?;

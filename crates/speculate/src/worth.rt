@@ -4,7 +4,7 @@
 //! Where they do little compared with that, running them one after the other is faster. Either
 //! choice is right: the children's runs mean the same.
 use batch::{Block, Otherwise, Step, Subaction};
-use objects::{Objects, Value};
+use objects::Objects;
 
 /// How many copied items or labels one operation outweighs.
 const COPIES: u64 = 16;
@@ -21,34 +21,21 @@ pub(crate) fn is_worth(children: &[Subaction], labels: usize, objects: &Objects)
     copied < outweighed && are_within(objects, outweighed - copied)
 }
 
-// Whether the sizes of the objects add up to `most` or less. It looks at one object more than
-// `most` or fewer.
+// Whether the sizes of the objects add up to `most` or less. The size of an object is 1, and 1 more
+// for each of its items. It looks at one object more than `most` or fewer.
 fn are_within(objects: &Objects, most: u64) -> bool {
     let mut left = most;
     for place in 0..u32::MAX {
         let Some(value) = objects.value(place) else {
             return true;
         };
-        let size = size_of(value);
+        let size = (value.content().len() as u64).saturating_add(1);
         if size > left {
             return false;
         }
         left -= size;
     }
     false
-}
-
-// How many items the value has, and 1 for itself.
-fn size_of(value: &Value) -> u64 {
-    let items = match value {
-        Value::Account(_) => 0,
-        Value::Counter(_) => 0,
-        Value::Set(set) => set.len(),
-        Value::Queue(queue) => queue.items().len(),
-        Value::Directory(directory) => directory.entries().len(),
-        Value::Max(_) => 0,
-    };
-    (items as u64).saturating_add(1)
 }
 
 // How many operations there are. Those of branches and handlers count too, though a run may not

@@ -1,5 +1,5 @@
 -- The words of kinds, replies and outcomes.
-use Rattle.std.specs.Prelude.{ℕ, Bool, List, [], ◌∷◌, codes, Option, nat_le, ◌&&◌}
+use Rattle.std.specs.Prelude.{ℕ, Bool, true, false, List, [], ◌∷◌, codes, Option, nat_le, ◌&&◌}
 use Rattle.std.specs.List.{find}
 use Rattle.std.specs.Str.{bytes_eq}
 use Rattle.objects.specs.declared.kind.Kind.{Kind}
@@ -53,6 +53,16 @@ word_text Aborted = codes "aborted"
 abbrev pub all_words : List Word
 all_words = Ok ∷ No ∷ Added ∷ Present ∷ Removed ∷ Absent ∷ Yes ∷ Got ∷ Empty ∷ Bound ∷ Taken ∷ Gone ∷ Missing ∷ Found ∷ Committed
     ∷ Aborted ∷ []
+
+-- whether a reply with this word refuses what was asked
+abbrev pub refuses : Word → Bool
+refuses No = true
+refuses Present = true
+refuses Absent = true
+refuses Empty = true
+refuses Taken = true
+refuses Missing = true
+refuses w = false
 
 -- the word that a text is
 unfoldable pub word_of_text : List ℕ → Option Word

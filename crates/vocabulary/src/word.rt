@@ -1,6 +1,6 @@
 //! The words of replies and outcomes.
 ghost use Rattle.std.specs.Prelude.{◌≡◌};
-ghost use Rattle.vocabulary.specs.Words.{word_of_text, word_text};
+ghost use Rattle.vocabulary.specs.Words.{refuses, word_of_text, word_text};
 
 /// The first part of a reply, or the outcome of a subaction.
 #[derive(Clone, Copy, Debug, PartialEq, Eq)]
@@ -44,6 +44,16 @@ const WORDS: [Word; 16] = [
 ];
 
 impl Word {
+    /// Whether a reply with this word refuses what was asked.
+    pub fn refuses(self) -> bool
+        ensures { result ≡ refuses self }
+    {
+        matches!(
+            self,
+            Word::No | Word::Present | Word::Absent | Word::Empty | Word::Taken | Word::Missing
+        )
+    }
+
     /// The word as text.
     pub fn text(self) -> &'static str
         ensures { result.now ≡ word_text self }

@@ -1,5 +1,6 @@
 use Rattle.std.proofs.Common.{◌≡◌, sym, ap, ◌∙◌, None}
 use Rattle.std.specs.Option.{option_copied}
+use Rattle.objects.specs.Contents.{content_length}
 use Rattle.batch.specs.Limits.{entries_in}
 use Rattle.carry.specs.Carried.{unfit_after}
 use Rattle.carry.proofs.Walking.{fits_here, unfit_here}
@@ -17,7 +18,7 @@ loop-place-preserved c =
     let none : unfit_after c.args.version c.loop-place.entries c.in-Some.value.now ≡ None =
     sym c.unfit_after.ensures.unfit ∙ c.in_default-unfit_after.is in
     let few = c.unfit_after.ensures.few c.in_default-unfit_after.is in
-    let same : c.entries_in-entries.result ≡ entries_in c.in-Some.value.now = c.entries_in-entries.ensures in
+    let same : c.len-entries.result ≡ entries_in c.in-Some.value.now = c.len-entries.ensures ∙ ap content_length c.content.ensures in
     rw same (
       few,
       sym (fits_here c.args.objects.now c.loop-place.place c.in-Some.value.now there c.args.version c.loop-place.entries none)

@@ -6,7 +6,7 @@ use Rattle.batch.specs.Names.{names_of}
 use Rattle.atoms.specs.Item.{item_cmp}
 use Rattle.atoms.specs.declared.item.Item.{Item}
 use Rattle.atoms.proofs.Items.{items_total, items_antisymmetric}
-use Rattle.report.proofs.SortedLemmas.{entries-sorted}
+use Rattle.atoms.proofs.SortedLemmas.{entries-sorted}
 use Rattle.carry.specs.Carried.{pair_text}
 use Rattle.report.proofs.Joined.{joined_behind-nothing, next_text}
 use Rattle.carry.proofs.Written.{pair_parts}

@@ -1,6 +1,7 @@
 use Rattle.std.proofs.Common.{◌≡◌, sym, ap, ◌∙◌, None, map}
 use Rattle.std.specs.Prelude.{option_map}
 use Rattle.std.proofs.lemmas.Option.{slice_get-map}
+use Rattle.objects.specs.Contents.{content_length}
 use Rattle.batch.specs.Limits.{entries_in}
 use Rattle.carry.specs.Carried.{unfit_after}
 use Rattle.carry.specs.Joined.{start_view, value_of}
@@ -28,7 +29,8 @@ loop-place-preserved c =
     let none : unfit_after c.args.version c.loop-place.entries c.in-Some.start.now.value.now ≡ None =
     sym c.unfit_after.ensures.unfit ∙ c.in_default-unfit_after.is in
     let few = c.unfit_after.ensures.few c.in_default-unfit_after.is in
-    let same : c.entries_in-entries.result ≡ entries_in c.in-Some.start.now.value.now = c.entries_in-entries.ensures in
+    let same : c.len-entries.result ≡ entries_in c.in-Some.start.now.value.now =
+    c.len-entries.ensures ∙ ap content_length c.content.ensures in
     rw same (
       few,
       sym (fits_here (map value_of (map start_view starts)) place c.in-Some.start.now.value.now here c.args.version

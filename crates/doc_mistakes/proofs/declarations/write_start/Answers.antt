@@ -5,4 +5,11 @@ use Rattle.doc_mistakes.proofs.declarations.write_start.Goals as goal
 pub returns : goal.returns
 unfolding start_said
 returns c =
-    simp (append_assoc, c.in_ok-write_starts_with.ensures, c.in_ok-write.ensures.bytes, c.in_ok-value.ensures, c.a_kind-object.ensures)
+    simp (
+      append_assoc,
+      c.in_ok-write_starts_with.ensures,
+      c.form.ensures,
+      c.in_ok-write.ensures.bytes,
+      c.in_ok-value.ensures,
+      c.a_kind-object.ensures,
+    )
