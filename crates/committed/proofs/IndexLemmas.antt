@@ -12,8 +12,9 @@ use Rattle.committed.specs.declared.heading.Heading.{Heading}
 use Rattle.committed.specs.contracts.heading.HeadingPartialEq.TheImpl as heading_eq
 use Rattle.committed.specs.declared.index.Index.{Index}
 use Rattle.committed.specs.declared.index.Link.{Link}
+use Rattle.committed.specs.declared.index.TheConstants.{MOST_LISTED}
 use Rattle.committed.specs.Index.{number_of, no_link, link_at, heading_at, place_at, IsEnd, IsLastOf, IsLink, IsSpan, AreLinks, AreLasts}
-use Rattle.committed.specs.Index.{HasLasts, AreSpans, IsAmong, IsLinked, IsListed, IsIndexOf, StaysIndex}
+use Rattle.committed.specs.Index.{HasLasts, AreSpans, AreUpTo, IsAmong, IsLinked, KeepsLinked, IsListed, IsListedAt, IsIndexOf, StaysIndex}
 use Rattle.conflicts.specs.Strictness.{IsAsStrict}
 use Rattle.committed.proofs.HeadingsLemmas.{length-values, own_value, other_value, no_fewer, one_more, kept_number, own_number}
 use Rattle.committed.proofs.HeadingsLemmas.{same_heading}
@@ -286,31 +287,31 @@ strictest_linked es index heading at lasts within same span = record {
 -- ---- an index
 
 -- where entries are put at the end, those that were there stay
-before_end : (es : List Entry) (e d : Entry) (k : ℕ) → k < length es → get_or (es ++ e ∷ []) k d ≡ get_or es k d
-before_end es e d k within = get_or_append_left es (e ∷ []) d k within
+before_end : (es more : List Entry) (d : Entry) (k : ℕ) → k < length es → get_or (es ++ more) k d ≡ get_or es k d
+before_end es more d k within = get_or_append_left es more d k within
 
 -- an index of entries is one of more entries
-pub index_more : (es : List Entry) (e : Entry) (index : Index) → IsIndexOf es index → IsIndexOf (es ++ e ∷ []) index
-index_more es e index is = record {
+pub index_more : (es more : List Entry) (index : Index) → IsIndexOf es index → IsIndexOf (es ++ more) index
+index_more es more index is = record {
   links = is.links;
   lasts = is.lasts;
   spans = λ n l. (let span = is.spans n l in
       let place : place_at index.links.items n < length es = span.place in
       record {
-        place = omega (arith, place, length-append es (e ∷ []));
+        place = omega (arith, place, length-append es more);
         strictest = span.strictest;
         chosen = span.chosen;
-        own = λ d. subst (λ p. IsAsStrict p (get_or (es ++ e ∷ []) (place_at index.links.items n) d))
-            (sym (before_end es e d (link_at index.links.items n).strictest (omega (arith, place, span.strictest))))
-            (subst (IsAsStrict (get_or es (link_at index.links.items n).strictest d)) (sym (before_end es e d
+        own = λ d. subst (λ p. IsAsStrict p (get_or (es ++ more) (place_at index.links.items n) d))
+            (sym (before_end es more d (link_at index.links.items n).strictest (omega (arith, place, span.strictest))))
+            (subst (IsAsStrict (get_or es (link_at index.links.items n).strictest d)) (sym (before_end es more d
             (place_at index.links.items n) place)) (span.own d));
-        others = λ m from before one d. subst (λ p. IsAsStrict p (get_or (es ++ e ∷ []) (place_at index.links.items m) d))
-            (sym (before_end es e d (link_at index.links.items n).strictest (omega (arith, place, span.strictest))))
+        others = λ m from before one d. subst (λ p. IsAsStrict p (get_or (es ++ more) (place_at index.links.items m) d))
+            (sym (before_end es more d (link_at index.links.items n).strictest (omega (arith, place, span.strictest))))
             (subst (IsAsStrict (get_or es (link_at index.links.items n).strictest d))
-            (sym (before_end es e d (place_at index.links.items m) (is.spans m (omega arith)).place)) (span.others m from before one d));
+            (sym (before_end es more d (place_at index.links.items m) (is.spans m (omega arith)).place)) (span.others m from before one d));
       });
-  listed = λ k l d. subst (IsListed index k) (sym (before_end es e d k (omega (arith, is.within)))) (is.listed k l d);
-  within = omega (arith, is.within, length-append es (e ∷ []));
+  listed = λ k l d. subst (IsListed index k) (sym (before_end es more d k (omega (arith, is.within)))) (is.listed k l d);
+  within = omega (arith, is.within, length-append es more);
   most = is.most;
   few = is.few;
   behind = is.behind;
@@ -343,3 +344,27 @@ index_moved index new entries links listed es is = record {
   few = omega (arith, is.few, listed, ap length links);
   behind = λ m l. omega (arith, is.behind m (omega (arith, l, ap length links)), listed, ap (λ ls. place_at ls m) links);
 }
+
+-- the next entry is listed, too, where it is in the chains of its object and of its item
+pub index_next : (es : List Entry) (old put : Index) → IsIndexOf es old → old.listed < length es → old.listed < MOST_LISTED
+    → put.listed ≡ old.listed → AreLinks put.links.items → HasLasts put → AreSpans es put.links.items → IsListedAt put es old.listed
+    → KeepsLinked old put → AreUpTo put.links.items old.listed → length put.links.items ≤ length old.links.items + 2
+    → let new : Index = record { last = put.last; links = put.links; listed = old.listed + 1 } in IsIndexOf es new
+index_next es old put is next most same links lasts spans own kept last few =
+    let new : Index = record { last = put.last; links = put.links; listed = old.listed + 1 } in
+    let moved : (k : ℕ) (e : Entry) → IsListed put k e → IsListed new k e =
+    λ k e both. (linked_moved put new refl refl k _ both.0, linked_moved put new refl refl k _ both.1) in
+    record {
+      links = links;
+      lasts = lasts;
+      spans = spans;
+      listed = λ k l d. moved k (get_or es k d) (elim (cases_lt k old.listed) [
+        | inl before ↦ (kept k _ (is.listed k before d).0, kept k _ (is.listed k before d).1)
+        | inr here ↦ (let at : old.listed ≡ k = omega (arith, l, here) in
+            subst (λ n. IsListed put n (get_or es n d)) at (own d))
+      ]);
+      within = omega (arith, next);
+      most = omega (arith, most);
+      few = omega (arith, few, is.few);
+      behind = λ m l. omega (arith, last m l);
+    }

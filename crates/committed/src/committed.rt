@@ -4,7 +4,6 @@ ghost use Rattle.objects.specs.Entries.{CommutesWith, AllCommute, CommuteForward
 ghost use Rattle.committed.specs.Marks.{mark_of};
 ghost use Rattle.committed.specs.Summaries.{entries_of, IsCovered, IsSummary};
 ghost use Rattle.committed.specs.Filter.{IsFilterOf, Meets};
-ghost use Rattle.committed.specs.Index.{IsIndexOf, IsAllListed, IndexHasRoom};
 
 use crate::filter::Filter;
 use crate::heading::Heading;
@@ -29,7 +28,8 @@ const LINKS_FOR_AN_ENTRY: usize = 8;
 ///
 /// An entry is compared with entries of its own object, and of its own item where the class asks
 /// for it. It is compared with none of a class that it always commutes with, and in a span of a
-/// chain only with the strictest. A filter clears most entries, with nothing to compare.
+/// chain only with the strictest. A filter clears most entries, with nothing to compare. Few entries
+/// have no index: an entry is compared with each of them.
 #[derive(Drop)]
 pub struct Committed {
     entries: Vec<Entry>,
@@ -51,12 +51,12 @@ impl Model for Committed {
 
     ghost view = { λ committed. committed.entries.items };
 
-    ghost use Rattle.committed.specs.Index.{IsIndexOf, IsAllListed};
+    ghost use Rattle.committed.specs.Index.{IsIndexOf, AreListed};
     ghost use Rattle.committed.specs.Filter.{IsFilterOf};
 
     ghost invariant = { λ committed. record {
       index : IsIndexOf committed.entries.items committed.index;
-      all : IsAllListed committed.entries.items committed.index;
+      all : AreListed committed.entries.items committed.index;
       filter : IsFilterOf committed.entries.items committed.filter;
     } };
 }
@@ -139,13 +139,9 @@ impl Committed {
     {
         self.entries.reserve(entries.len())?;
         self.filter.reserve(&self.entries, entries.len())?;
-        self.index.reserve(entries.len())?;
-        put_all(
-            &mut self.entries,
-            &mut self.filter,
-            &mut self.index,
-            entries,
-        );
+        self.index.reserve(self.entries.len() + entries.len())?;
+        put_all(&mut self.entries, &mut self.filter, entries);
+        self.index.list(&self.entries);
         Ok(())
     }
 
@@ -220,6 +216,9 @@ impl Committed {
             → Meets met entry.now (slice_index_or self.now k entry.now) }
         ensures { IsTrue result ↔ CommutesWith entry.now (take upto self.now) }
     {
+        if self.index.listed() == 0 {
+            return commutes_past(entry, &self.entries, 0, upto);
+        }
         let mut rest = met;
         while let Some(class) = Class::first_of(rest) {
             let heading = Heading::against(entry, class);
@@ -232,22 +231,16 @@ impl Committed {
     }
 }
 
-/// Appends entries to a list, its filter and its index, which have room for them.
-fn put_all(entries: &mut Vec<Entry>, filter: &mut Filter, index: &mut Index, more: &[MarkedEntry])
+/// Appends entries to a list, which has room for them, and to its filter.
+fn put_all(entries: &mut Vec<Entry>, filter: &mut Filter, more: &[MarkedEntry])
     requires room { vec_len entries.old + length more.now ≤ vec_capacity entries.old }
-    requires index_room { IndexHasRoom index.old (length more.now) }
     requires filter { IsFilterOf entries.old.items filter.old }
-    requires index { IsIndexOf entries.old.items index.old }
-    requires all { IsAllListed entries.old.items index.old }
     ensures entries { entries.new.items ≡ entries.old.items ++ entries_of more.now }
     ensures filter { IsFilterOf entries.new.items filter.new }
-    ensures index { IsIndexOf entries.new.items index.new }
-    ensures all { IsAllListed entries.new.items index.new }
 {
     for marked in more {
         filter.mark(&marked.mark);
         entries.push_reserved(marked.entry);
-        index.push(entries);
     }
 }
 

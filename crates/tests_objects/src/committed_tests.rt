@@ -357,9 +357,15 @@ fn entries_are_left_out_where_one_is_as_strict(rt: HostRuntime) -> Result<(), Fa
         ..deposit
     };
     let mut committed = Committed::new(rt.alloc());
-    append_new_gives(&rt, &mut committed, &[deposit, another, deposit], 1);
-    append_new_gives(&rt, &mut committed, &[elsewhere, larger, another], 3);
-    append_new_gives(&rt, &mut committed, &[smaller, larger, elsewhere], 4);
+    // Of few entries all are listed.
+    append_new_gives(&rt, &mut committed, &[deposit, another, deposit], 3);
+    committed.clear();
+    for object in 100..140u32 {
+        committed.append(&[Entry { object, ..deposit }])?;
+    }
+    append_new_gives(&rt, &mut committed, &[deposit, another, deposit], 41);
+    append_new_gives(&rt, &mut committed, &[elsewhere, larger, another], 43);
+    append_new_gives(&rt, &mut committed, &[smaller, larger, elsewhere], 44);
     assert!(rt; committed.entries().last() == Some(&smaller));
     Ok(())
 }

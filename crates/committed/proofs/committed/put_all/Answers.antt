@@ -2,16 +2,9 @@ use Rattle.std.proofs.Common.{◌≡◌, ◌++◌, ◌∷◌, [], arith, get_or,
 use Rattle.std.proofs.lemmas.Bool.{cases_lt}
 use Rattle.std.proofs.lemmas.List.{append_assoc, length-append, get_or_append_left, get_or-append_right}
 use Rattle.committed.specs.Filter.{IsMarked}
-use Rattle.committed.specs.Index.{IsIndexOf}
 use Rattle.committed.specs.Summaries.{entries_of}
-use Rattle.committed.proofs.IndexLemmas.{index_more}
 use Rattle.committed.proofs.SummaryLemmas.{entries_next}
 use Rattle.committed.proofs.committed.put_all.Goals as goal
-
-pub push-requires-clause-index : goal.push-requires-clause-index
-push-requires-clause-index c =
-    subst (λ es. IsIndexOf es c.loop-marked.index) (sym (c.deref.ensures.value ∙ c.push_reserved.ensures.items))
-    (index_more c.loop-marked.entries.items c.marked-item.result.entry c.loop-marked.index c.loop-marked.invariant.index)
 
 pub loop-marked-preserved : goal.loop-marked-preserved
 loop-marked-preserved c =
@@ -28,8 +21,6 @@ loop-marked-preserved c =
           ∙ append_assoc c.args.entries.now.items (entries_of (take at more)) (e ∷ [])
           ∙ ap (λ xs. c.args.entries.now.items ++ xs) (sym (entries_next more at m c.loop-marked-test.true c.marked-item.is));
       room = omega (arith, was.room, c.push_reserved.ensures.len, c.push_reserved.ensures.capacity, c.loop-marked-test.true);
-      index_room = c.push.ensures.room _
-          (omega (arith, was.index_room.0, c.loop-marked-test.true), omega (arith, was.index_room.1, c.loop-marked-test.true));
       filter = λ k d l. elim (cases_lt k (length es)) [
         | inl before ↦ subst (IsMarked c.mark.new.self) (sym (ap (λ xs. get_or xs k d) c.push_reserved.ensures.items
             ∙ get_or_append_left es (e ∷ []) d k before))
@@ -41,6 +32,4 @@ loop-marked-preserved c =
             ∙ get_or-append_right es (e ∷ []) (length es) (length es) d refl (omega arith) ∙ ap (λ n. get_or (e ∷ []) n d) none))
             (c.mark.ensures.own e m.is_marked))
       ];
-      index = subst (λ xs. IsIndexOf xs c.push.new.self) c.deref.ensures.value c.push.ensures.index;
-      all = omega (arith, c.push.ensures.listed, was.all, longer);
     }

@@ -1,7 +1,6 @@
 use Rattle.std.proofs.Common.{◌≡◌, ◌++◌, ◌+◌, ◌-◌, ◌≤◌, take, length}
 use Rattle.std.specs.Prelude.{vec_len, vec_capacity}
 use Rattle.committed.specs.Filter.{IsFilterOf}
-use Rattle.committed.specs.Index.{IsIndexOf, IsAllListed, IndexHasRoom}
 use Rattle.committed.specs.Summaries.{entries_of}
 use Rattle.committed.proofs.committed.put_all.Given as goal
 
@@ -9,8 +8,5 @@ abbrev pub invariant-loop-marked : goal.invariant-loop-marked
 invariant-loop-marked l = record {
   entries : l.entries.items ≡ l.initial.entries.items ++ entries_of (take l.marked-index l.more);
   room : vec_len l.entries + (length l.more - l.marked-index) ≤ vec_capacity l.entries;
-  index_room : IndexHasRoom l.index (length l.more - l.marked-index);
   filter : IsFilterOf l.entries.items l.filter;
-  index : IsIndexOf l.entries.items l.index;
-  all : IsAllListed l.entries.items l.index;
 }

@@ -11,10 +11,21 @@ use Rattle.conflicts.proofs.EffectLemmas.{elsewhere}
 use Rattle.committed.proofs.StandsLemmas.{all_first, each_first, linked_against}
 use Rattle.committed.proofs.committed.Committed.commutes_with_met.Goals as goal
 
+pub returns-then-listed-eq0 : goal.returns-then-listed-eq0
+returns-then-listed-eq0 c =
+    let e = c.args.entry.now in
+    let es = c.args.self.now in
+    let read : c.deref.result.now ≡ es = c.deref.ensures.value ∙ c.self.view_is in (
+      λ h. all_first e es c.args.upto c.requires.within (λ k before.
+          subst (λ xs. CommuteForward e (get_or xs k e)) read (c.commutes_past.ensures.0 h k (omega arith) before)),
+      λ h. c.commutes_past.ensures.1 (λ k from before.
+          subst (λ xs. CommuteForward e (get_or xs k e)) (sym read) (each_first e es c.args.upto c.requires.within h k before)),
+    )
+
 pub returns-then-not-commutes : goal.returns-then-not-commutes
 returns-then-not-commutes c =
     let e = c.args.entry.now in
-    let read : c.deref.result.now ≡ c.args.self.now = c.deref.ensures.value ∙ c.self.view_is in (
+    let read : c.deref-in-Some.result.now ≡ c.args.self.now = c.deref-in-Some.ensures.value ∙ c.self.view_is in (
       λ h. absurd (false≢true h),
       λ h. absurd (false≢true (sym c.if-not-commutes.true ∙ c.commutes.ensures.all (λ k before linked.
           subst (λ es. CommuteForward e (get_or es k e)) (sym read)
@@ -55,7 +66,7 @@ loop-class-preserved c k before listed gone = elim (c.taken_from-rest.ensures.ot
         let linked : IsLinked c.self.inside.index k c.against-heading.result =
         subst (IsLinked c.self.inside.index k) (ap (heading_against e) here ∙ sym c.against-heading.ensures)
         (linked_against c.self.inside.index e other k compared inside_listed) in
-        subst (λ xs. CommuteForward e (get_or xs k e)) (c.deref.ensures.value
+        subst (λ xs. CommuteForward e (get_or xs k e)) (c.deref-in-Some.ensures.value
         ∙ c.self.view_is) (c.commutes.ensures.found c.if-not-commutes.false k before linked)
 
 pub returns : goal.returns
@@ -67,8 +78,8 @@ returns c =
         | inl listed ↦ c.loop-class.invariant k before listed
             (c.in_default.ensures.none refl (class_of (get_or es k e).call (get_or es k e).reply))
         | inr past ↦ subst (λ xs. CommuteForward e (get_or xs k e)) read
-            (c.commutes_past.ensures.0 h k (omega (arith, past, c.listed.ensures)) before)
+            (c.commutes_past-2.ensures.0 h k (omega (arith, past, c.listed-2.ensures)) before)
       ]),
-      λ h. c.commutes_past.ensures.1 (λ k from before.
+      λ h. c.commutes_past-2.ensures.1 (λ k from before.
           subst (λ xs. CommuteForward e (get_or xs k e)) (sym read) (each_first e es c.args.upto c.requires.within h k before)),
     )

@@ -15,13 +15,13 @@ invariant_of-self c = record {
 pub invariant_of-self-in_err-expect : goal.invariant_of-self-in_err-expect
 invariant_of-self-in_err-expect c = record {
   index = c.expect.ensures.index c.self.inside.entries.items c.self.invariant.index;
-  all = c.expect.ensures.listed ∙ c.self.invariant.all;
+  all = λ many. c.expect.ensures.listed ∙ c.self.invariant.all many;
   filter = subst (λ es. IsFilterOf es c.reserve.new.self) c.deref.ensures.value c.reserve.ensures.filter;
 }
 
 pub invariant_of-self-2 : goal.invariant_of-self-2
 invariant_of-self-2 c = record {
   index = c.expect.ensures.index c.self.inside.entries.items c.self.invariant.index;
-  all = c.expect.ensures.listed ∙ c.self.invariant.all;
+  all = λ many. c.expect.ensures.listed ∙ c.self.invariant.all many;
   filter = subst (λ es. IsFilterOf es c.reserve.new.self) c.deref.ensures.value c.reserve.ensures.filter;
 }

@@ -9,8 +9,8 @@ returns-in_err-reserve-clause-index c =
     let new : Index = record { last = old.last; links = c.reserve.new.self; listed = old.listed } in
     index_moved old new refl c.reserve.ensures.items refl
 
-pub returns-clause-index : goal.returns-clause-index
-returns-clause-index c =
+pub returns-in_ok-reserve-clause-index : goal.returns-in_ok-reserve-clause-index
+returns-in_ok-reserve-clause-index c =
     let old = c.args.self.now in
     let new : Index = record { last = old.last; links = c.reserve.new.self; listed = old.listed } in
     index_moved old new refl c.reserve.ensures.items refl
