@@ -133,6 +133,47 @@ kept_others window since from numbers new begun flags fallen stale = record {
   ];
 }
 
+-- no run is valid past the last one
+pub all_past : (window : Window) (since : List Entry) (from : ℕ) → length window.valid.items ≡ length window.runs.items
+    → from ≡ end_of window → AreKept from since window window
+all_past window since from flags last = record {
+  first = refl;
+  runs = refl;
+  flags = refl;
+  valid = λ i low valid. valid;
+  each = λ i d low valid. absurd (false≢true (sym (none_past window i flags (omega (arith, last))) ∙ valid));
+}
+
+-- the run of the conflict falls, too
+pub kept_after : (window mid new : Window) (since : List Entry) (conflict : ℕ) → window.first ≤ conflict → conflict < end_of window
+    → length window.valid.items ≡ length window.runs.items → AreKept (conflict + 1) since window mid
+    → ((d : PendingRun) → IsValid window conflict → ¬ HoldsPast since (run_at window conflict d)) → new.first ≡ mid.first
+    → new.runs ≡ mid.runs → new.valid.items ≡ set mid.valid.items (conflict - mid.first) false → AreKept conflict since window new
+kept_after window mid new since conflict low inside flags kept falls first runs valid =
+    let begun = kept.first in
+    let all = kept.flags in
+    let flag = flag_set mid new conflict false (omega arith) (omega arith) first valid in
+    let others : (i : ℕ) → conflict + 1 ≤ i → flag_at new i ≡ flag_at mid i = λ i later. flag.1 i (omega arith) (omega arith) in
+    record {
+      first = first ∙ kept.first;
+      runs = runs ∙ kept.runs;
+      flags = ap length valid ∙ (length-set mid.valid.items (conflict - mid.first) false ∙ kept.flags);
+      valid = λ i from is. elim (dec_le (conflict + 1) i) [
+        | yes later ↦ kept.valid i later (sym (others i later) ∙ is)
+        | no here ↦ (let same : i ≡ conflict = omega arith in absurd (false≢true (sym flag.0 ∙ sym (ap (flag_at new) same) ∙ is)))
+      ];
+      each = λ i d from was. elim (dec_le (conflict + 1) i) [
+        | yes later ↦ ⊎_elim
+            (λ (stays : IsValid mid i × HoldsPast since (run_at window i d)). inl (others i later ∙ stays.0, stays.1))
+            (λ (falls : (flag_at mid i ≡ false) × (¬ HoldsPast since (run_at window i d))). inr (others i later ∙ falls.0, falls.1))
+            (kept.each i d later was)
+        | no here ↦ (let same : i ≡ conflict = omega arith in inr (
+          ap (flag_at new) same ∙ flag.0,
+          subst (λ k. ¬ HoldsPast since (run_at window k d)) (sym same) (falls d (subst (IsValid window) same was)),
+        ))
+      ];
+    }
+
 -- so far in order: of the runs from one number on and before another those are valid that were and stand past these entries
 pub record AreKeptTo (from number : ℕ) (since : List Entry) (old new : Window) : Type 0 where
   pub first : new.first ≡ old.first

@@ -11,6 +11,7 @@ use Rattle.intentions.specs.Levels.{AllHaveRoom}
 use Rattle.objects.specs.declared.entry.Entry.{Entry}
 use Rattle.meaning.specs.OneThread.{one}
 use Rattle.meaning.specs.Batch.{block_at, state_at, alone, answer, nets, shown_from}
+use Rattle.meaning.specs.Rounds.{Keeps, IsNextOpening}
 use Rattle.meaning.proofs.Batches.{batch_leads}
 use Rattle.batch.specs.Views.{record_view}
 use Rattle.batch.specs.declared.batch.Batch.{Batch}
@@ -81,18 +82,34 @@ module _ (batch : Batch) (b first : ℕ) (state : State) (window : Window) (list
       ∙ (sym (batch_leads (start_of batch) (blocks_of batch) b (first - b)).1
       ∙ ap (state_at (start_of batch) (blocks_of batch)) same)))
 
+  -- a run stands past what the round commits exactly where it holds past what is listed
+  stands_where_holds : (i : ℕ) (d : PendingRun) → first ≤ i → IsValid window i
+      → HoldsPast listed (run_at window i d) ↔ Stands batch b first i
+  stands_where_holds i d low valid =
+      let here = alone_at batch b first (state_at (start_of batch) (blocks_of batch) b) window refl at i d low valid in
+      holds_past (start_of batch) (blocks_of batch) i b listed (nets (start_of batch) (blocks_of batch) b (first - b))
+      (run_at window i d) here seen.nets
+
+  -- the run at the next opening doesn't, where it is valid
+  pub falls : IsNextOpening (start_of batch) (blocks_of batch) b first → (d : PendingRun) → IsValid window first
+      → ¬ HoldsPast listed (run_at window first d)
+  falls next d valid holds = elim (dec_le (end_of window) first) [
+    | yes beyond ↦ false≢true (sym (none_past window first at.flags beyond) ∙ valid)
+    | no within ↦
+        let most = at.within in
+        let from = seen.from in
+        let stands = (stands_where_holds first d (omega arith) valid).0 holds in
+        let further = next.largest (first + 1) (omega arith) (λ i low high. elim (dec_le (first) i) [
+          | no before ↦ next.all_keep i low (omega arith)
+          | yes here ↦ subst (λ k. Keeps (start_of batch) (blocks_of batch) k b) (omega arith) stands
+        ]) in
+        omega arith
+  ]
+
   module _ (next : State) (new : Window) (next_is : next ≡ state_at (start_of batch) (blocks_of batch) first)
       (kept : AreKept first listed window new) where
     runs_are : (i : ℕ) (d : PendingRun) → run_at new i d ≡ run_at window i d
     runs_are i d = run_read window new window.runs.items i d kept.first (ap (λ rs. rs.items) kept.runs)
-
-    -- a run stands past what the round commits exactly where it holds past what is listed
-    stands_where_holds : (i : ℕ) (d : PendingRun) → first ≤ i → IsValid window i
-        → HoldsPast listed (run_at window i d) ↔ Stands batch b first i
-    stands_where_holds i d low valid =
-        let here = alone_at batch b first (state_at (start_of batch) (blocks_of batch) b) window refl at i d low valid in
-        holds_past (start_of batch) (blocks_of batch) i b listed (nets (start_of batch) (blocks_of batch) b (first - b))
-        (run_at window i d) here seen.nets
 
     -- a valid run stays so exactly where it commutes forward with what the round commits
     pub kept_at : (i : ℕ) → first ≤ i → IsValid window i → (IsValid new i × Stands batch b first i)

@@ -7,7 +7,7 @@ ghost use Rattle.rounds.specs.Workspaces.{IsReadyOn};
 ghost use Rattle.rounds.specs.Passes.{CanBeMade};
 ghost use Rattle.rounds.specs.PendingRuns.{IsPendingOf, HoldsPast};
 ghost use Rattle.rounds.specs.Views.{blocks_of, meaning};
-ghost use Rattle.rounds.specs.Windows.{flag_at, end_of, runs_between, IsValid, AllValid, IsWindowAt, IsOpenedBy, HasGrown, IsPutInWindow, AreFallen, AreStale, AreKept, IsFreedAt, AreCleared, AreSettled, IsShortened, AreMissing, IsDecided, Told, ArePassing};
+ghost use Rattle.rounds.specs.Windows.{run_at, flag_at, end_of, runs_between, IsValid, AllValid, IsWindowAt, IsOpenedBy, HasGrown, IsPutInWindow, AreFallen, AreStale, AreKept, IsFreedAt, AreCleared, AreSettled, IsShortened, AreMissing, IsDecided, Told, ArePassing};
 ghost use Rattle.rounds.specs.declared.pending_run.PendingRun.{PendingRun as OnePending};
 ghost use Rattle.meaning.specs.declared.limits.TheConstants.{MAX_TRANSACTIONS};
 ghost use Rattle.plan.specs.declared.plan.TheConstants.{MAX_WORKERS};
@@ -394,11 +394,9 @@ impl Window {
         }
     }
 
-    /// Keeps of the runs from one number on those that stand past what was committed, which is the
-    /// first `upto` entries of the nets. The others aren't valid then.
-    ///
-    /// Returns `NoMemory` where a request for memory was refused.
-    pub(crate) fn keep<R: Threads + Sync, G: Gate>(
+    // Keeps of the runs from one number on those that stand past what was committed, which is the
+    // first `upto` entries of the nets. The others aren't valid then.
+    fn keep<R: Threads + Sync, G: Gate>(
         &mut self,
         job: &Job<R, G>,
         from: usize,
@@ -418,6 +416,34 @@ impl Window {
         }
         let fallen = self.fallen(job, workers, from, nets, upto)?;
         self.forget(&fallen);
+        Ok(())
+    }
+
+    /// Keeps of the runs from the first conflict on those that stand past what was committed, which
+    /// is the first `upto` entries of the nets. The run of the conflict doesn't, and isn't compared
+    /// again.
+    ///
+    /// Returns `NoMemory` where a request for memory was refused.
+    pub(crate) fn keep_after<R: Threads + Sync, G: Gate>(
+        &mut self,
+        job: &Job<R, G>,
+        conflict: usize,
+        nets: &Committed,
+        upto: usize,
+    ) -> Result<(), NoMemory>
+        requires flags { length self.old.valid.items ≡ length self.old.runs.items }
+        requires few { end_of self.old ≤ MAX_TRANSACTIONS }
+        requires upto { upto ≤ length nets.now }
+        requires from { (self.old.first ≤ conflict) × (conflict ≤ end_of self.old) }
+        requires falls { (d : OnePending) → IsValid self.old conflict
+            → ¬ HoldsPast (take upto nets.now) (run_at self.old conflict d) }
+        ensures { OnOk result (AreKept conflict (take upto nets.now) self.old self.new) }
+    {
+        if conflict == self.end() {
+            return Ok(());
+        }
+        self.keep(job, conflict + 1, nets, upto)?;
+        self.valid[conflict - self.first] = false;
         Ok(())
     }
 

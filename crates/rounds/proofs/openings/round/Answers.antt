@@ -8,7 +8,7 @@ use Rattle.batch.specs.Views.{block_view}
 use Rattle.rounds.specs.Views.{start_of, blocks_of}
 use Rattle.rounds.specs.PendingRuns.{own_nets, AreSpanned}
 use Rattle.rounds.specs.Windows.{Stands}
-use Rattle.rounds.proofs.Rounding.{commits, moved_on, kept_at, kept_window, committed_on}
+use Rattle.rounds.proofs.Rounding.{commits, moved_on, falls, kept_at, kept_window, committed_on}
 use Rattle.rounds.proofs.WindowLemmas.{settled_flag, settled_window}
 use Rattle.rounds.proofs.openings.round.Goals as goal
 
@@ -49,6 +49,14 @@ commit-requires-clause-room g c κs within =
     (commits batch opened seen.first state c.seek.new.window (take seen.upto c.seek.new.reused.nets) c.requires.at.objects
     c.requires.at.within saw.pending saw.reached saw.listed).1
 
+pub keep_after-requires-clause-falls : goal.keep_after-requires-clause-falls
+keep_after-requires-clause-falls g c κs within d valid =
+    let batch = c.args.job.now.batch.now in
+    let seen = c.in_ok-seen.seen in
+    let saw = c.in_ok-seen.ensures.seen in
+    falls batch c.args.at.now.committed seen.first c.args.at.now.objects c.seek.new.window (take seen.upto c.seek.new.reused.nets)
+    c.requires.at.objects c.requires.at.within saw.pending saw.reached saw.listed saw.opening d valid
+
 pub returns-clause-at : goal.returns-clause-at
 returns-clause-at g c =
     let batch = c.args.job.now.batch.now in
@@ -63,7 +71,7 @@ returns-clause-at g c =
     let state = c.args.at.now.objects in
     let listed = take seen.upto c.seek.new.reused.nets in
     let window = c.seek.new.window in
-    let kept = c.keep.new.self in
+    let kept = c.keep_after.new.self in
     let new = c.shorten.new.self in
     let inside = saw.opening.within in
     let on = comes_on start blocks opened seen.first (omega (arith, count, all, c.requires.going)) saw.opening in
@@ -71,7 +79,7 @@ returns-clause-at g c =
     saw.reached saw.listed c.commit.new.objects
     (c.in_ok-commit.ensures ∙ ap (λ rs. after state (own_nets blocks opened rs)) c.between-runs.ensures) in
     let still = kept_window batch opened seen.first state window listed c.requires.at.objects c.requires.at.within saw.pending
-    saw.reached saw.listed c.commit.new.objects kept next c.in_ok-keep.ensures in
+    saw.reached saw.listed c.commit.new.objects kept next c.in_ok-keep_after.ensures in
     let done = c.in_ok-settle.ensures in
     let rounds = c.args.at.now.rounds in
     let few = c.requires.at.few_rounds in
@@ -82,7 +90,7 @@ returns-clause-at g c =
           c.settle.new.records all done c.shorten.ensures (omega arith) c.commit.new.objects still;
       cleared = c.clear.ensures;
       committed = committed_on batch opened seen.first state window listed c.requires.at.objects c.requires.at.within saw.pending
-          saw.reached saw.listed c.commit.new.objects kept next c.in_ok-keep.ensures c.settle.new.self c.args.at.now.records
+          saw.reached saw.listed c.commit.new.objects kept next c.in_ok-keep_after.ensures c.settle.new.self c.args.at.now.records
           c.settle.new.records c.requires.at.committed done;
       few_rounds = omega arith;
       all_rounds = λ more from.
@@ -109,7 +117,7 @@ returns-clause-round g c =
     let state = c.args.at.now.objects in
     let listed = take seen.upto c.seek.new.reused.nets in
     let window = c.seek.new.window in
-    let kept = c.keep.new.self in
+    let kept = c.keep_after.new.self in
     let new = c.shorten.new.self in
     let inside = saw.opening.within in
     let on = comes_on start blocks opened seen.first (omega (arith, count, all, c.requires.going)) saw.opening in
@@ -117,7 +125,7 @@ returns-clause-round g c =
     saw.reached saw.listed c.commit.new.objects
     (c.in_ok-commit.ensures ∙ ap (λ rs. after state (own_nets blocks opened rs)) c.between-runs.ensures) in
     let still = kept_window batch opened seen.first state window listed c.requires.at.objects c.requires.at.within saw.pending
-    saw.reached saw.listed c.commit.new.objects kept next c.in_ok-keep.ensures in
+    saw.reached saw.listed c.commit.new.objects kept next c.in_ok-keep_after.ensures in
     let done = c.in_ok-settle.ensures in
     let begun = c.requires.at.window.begun in
     record {
@@ -130,6 +138,6 @@ returns-clause-round g c =
           i low in
           subst (λ f. ((f ≡ true) × Stands batch opened seen.first i) ⊎ ((f ≡ false) × (¬ Stands batch opened seen.first i))) (sym flag)
           (kept_at batch opened seen.first state window listed c.requires.at.objects c.requires.at.within saw.pending saw.reached
-          saw.listed c.commit.new.objects kept next c.in_ok-keep.ensures i low
+          saw.listed c.commit.new.objects kept next c.in_ok-keep_after.ensures i low
           (c.in_ok-seen.ensures.grown.still i (omega arith) valid));
     }
