@@ -1,11 +1,12 @@
 -- What a filter has, and which entries it speaks of.
 use Rattle.std.proofs.Common.{◌&&◌, ◌||◌, nat_eq, zero, suc, ◌≡◌, ◌≢◌, ◌⊎◌, ℕ, ◌-◌, ◌^◌, ◌<◌, ◌≤◌, arith, max}
-use Rattle.std.proofs.Common.{Bool, true, false, List, [], ◌∷◌}
+use Rattle.std.proofs.Common.{Bool, true, false, List, [], ◌∷◌, ◌++◌}
 use Rattle.std.proofs.Common.{length, get_or, set, refl, sym, ap, ◌∙◌, subst, inl, inr, bit_and, bit_or}
 use Rattle.std.specs.Prelude.{Option, Some, None, if◌then◌else◌}
 use Rattle.std.specs.Int.{bit_at}
 use Rattle.std.proofs.lemmas.Bool.{cases_eq, cases_lt, eqb-true, and_parts, false≢true}
 use Rattle.std.proofs.lemmas.List.{length-set, get_or-set_same, get_or-set_other, get_or_default, get_or_past}
+use Rattle.std.proofs.lemmas.List.{length-append, get_or_append_left, get_or-append_right}
 use Rattle.std.proofs.lemmas.Nat.Bits.{bit_at_and, bit_at_or, bit_at-lt, bit_at-pow_same, bit_at_above, bit_at_ones}
 use Rattle.atoms.specs.declared.item.Item.{Item}
 use Rattle.atoms.proofs.Items.{one_item}
@@ -16,7 +17,7 @@ use Rattle.committed.specs.declared.filter.Filter.{Filter}
 use Rattle.conflicts.specs.Classes.{class_of, class_number, classes, conflicts_of, always_commute, is_by_item, by_item}
 use Rattle.conflicts.specs.Items.{operation_item, is_same_item, is_compared}
 use Rattle.committed.specs.Marks.{hash_of, mark_of}
-use Rattle.committed.specs.Filter.{slot_of, HasAllIn, set_at, IsMarked, Meets}
+use Rattle.committed.specs.Filter.{slot_of, HasAllIn, set_at, IsMarked, IsFilterOf, Meets}
 use Rattle.objects.specs.Entries.{CommuteForward}
 use Rattle.conflicts.proofs.EffectLemmas.{always_commutes, elsewhere}
 use Rattle.conflicts.proofs.ClassNumbers.{class_at, number-bound}
@@ -190,4 +191,15 @@ met_by_item filter p q marked = elim (meets filter p q marked) [
       let met : ℕ = bit_and (set_at filter (mark_of p).of_object) (mark_of p).conflicts in
       let sets : ℕ = bit_or (set_at filter (mark_of p).of_item) by_object in
       inr (bit_at_and met sets n ∙ omega (arith, is.object, is.item)))
+]
+
+-- a filter of entries, where one more is marked
+pub filter_next : (es : List Entry) (e : Entry) (old new : Filter) → IsFilterOf es old
+    → ((other : Entry) → IsMarked old other → IsMarked new other) → IsMarked new e → IsFilterOf (es ++ e ∷ []) new
+filter_next es e old new was kept own k d l = elim (cases_lt k (length es)) [
+  | inl before ↦ subst (IsMarked new) (sym (get_or_append_left es (e ∷ []) d k before)) (kept (get_or es k d) (was k d before))
+  | inr late ↦ (let last : k ≡ length es = omega (arith, l, length-append es (e ∷ [])) in
+      let none : length es - length es ≡ 0 = omega arith in
+      subst (IsMarked new) (sym (ap (λ n. get_or (es ++ e ∷ []) n d) last
+      ∙ get_or-append_right es (e ∷ []) (length es) (length es) d refl (omega arith) ∙ ap (λ n. get_or (e ∷ []) n d) none)) own)
 ]

@@ -6,7 +6,7 @@ use Rattle.objects.specs.Entries.{CommuteForward}
 use Rattle.committed.specs.declared.heading.Heading.{Heading}
 use Rattle.committed.specs.contracts.heading.HeadingPartialEq.TheImpl as heading_eq
 use Rattle.committed.specs.declared.index.Index.{Index}
-use Rattle.committed.specs.declared.index.TheConstants.{MOST_LISTED, MOST_UNLISTED}
+use Rattle.committed.specs.declared.index.TheConstants.{MOST_LISTED}
 use Rattle.committed.specs.declared.index.Link.{Link}
 use Rattle.committed.specs.Headings.{heading_of, of_object}
 use Rattle.conflicts.specs.Strictness.{IsAsStrict}
@@ -147,10 +147,6 @@ pub record IsLastBelow (links : List Link) (own upto found : ℕ) : Type 0 where
 abbrev pub CommutesUnder : Index → Heading → Entry → List Entry → ℕ → Type 0
 CommutesUnder index heading e entries upto = (k : ℕ) → k < upto → IsLinked index k heading → CommuteForward e (slice_index_or entries k e)
 
--- all entries are listed, or as many as can be, unless they are few
+-- all entries are listed, or as many as can be
 abbrev pub AreListed : List Entry → Index → Type 0
-AreListed entries index = MOST_UNLISTED < length entries → index.listed ≡ min (length entries) MOST_LISTED
-
--- so many entries in all can be, unless they are few
-abbrev pub HasRoomFor : ℕ → Index → Type 0
-HasRoomFor count index = MOST_UNLISTED < count → IndexHasRoom index (count - index.listed)
+AreListed entries index = index.listed ≡ min (length entries) MOST_LISTED

@@ -1,5 +1,6 @@
 //! The list of committed entries, against which other entries are checked.
-ghost use Rattle.std.specs.Prelude.{◌≡◌, ◌↔◌, ◌+◌, ◌<◌, ◌≤◌, ℕ, [], ◌++◌, length, take, slice_index_or, vec_len, vec_capacity, IsTrue, OnOk, OnErr};
+ghost use Rattle.std.specs.Prelude.{◌≡◌, ◌↔◌, ◌+◌, ◌<◌, ◌≤◌, ℕ, [], ◌++◌, ◌∷◌, length, take, slice_index_or, vec_len, vec_capacity, IsTrue, IfOk, OnOk, OnErr};
+ghost use Rattle.objects.specs.declared.entry.Entry.{Entry as OneEntry};
 ghost use Rattle.objects.specs.Entries.{CommutesWith, AllCommute, CommuteForward};
 ghost use Rattle.committed.specs.Marks.{mark_of};
 ghost use Rattle.committed.specs.Summaries.{entries_of, IsCovered, IsSummary};
@@ -16,6 +17,16 @@ use serial::NoMemory;
 use std::alloc::Global;
 use std::marker::Model;
 
+/// Listing an entry in the index takes about as long as so many comparisons.
+const LISTING: usize = 16;
+
+/// How many comparisons are too few for an index, however few entries there are.
+const FEW_COMPARISONS: usize = 1024;
+
+/// How many comparisons are taken to come of an entry that is perhaps listed twice. It is listed if
+/// there are more of these than half of the entries.
+const REPEATED: usize = 32;
+
 /// For how many links of its index a list may have memory that is kept when it is cleared.
 const MOST_LINKS: usize = 1024;
 
@@ -28,8 +39,8 @@ const LINKS_FOR_AN_ENTRY: usize = 8;
 ///
 /// An entry is compared with entries of its own object, and of its own item where the class asks
 /// for it. It is compared with none of a class that it always commutes with, and in a span of a
-/// chain only with the strictest. A filter clears most entries, with nothing to compare. Few entries
-/// have no index: an entry is compared with each of them.
+/// chain only with the strictest. A filter clears most entries, with nothing to compare. Entries are
+/// listed in the index once this pays. Until then an entry is compared with each of them.
 #[derive(Drop)]
 pub struct Committed {
     entries: Vec<Entry>,
@@ -37,6 +48,8 @@ pub struct Committed {
     index: Index,
     /// Clears most of the entries that commute forward with all listed ones.
     filter: Filter,
+    /// About how many comparisons an index of all entries would have saved since some were listed.
+    spent: usize,
 }
 
 impl Model for Committed {
@@ -51,12 +64,11 @@ impl Model for Committed {
 
     ghost view = { λ committed. committed.entries.items };
 
-    ghost use Rattle.committed.specs.Index.{IsIndexOf, AreListed};
+    ghost use Rattle.committed.specs.Index.{IsIndexOf};
     ghost use Rattle.committed.specs.Filter.{IsFilterOf};
 
     ghost invariant = { λ committed. record {
       index : IsIndexOf committed.entries.items committed.index;
-      all : AreListed committed.entries.items committed.index;
       filter : IsFilterOf committed.entries.items committed.filter;
     } };
 }
@@ -77,6 +89,7 @@ impl Committed {
             entries: Vec::new(alloc),
             index: Index::new(alloc, hashing),
             filter: Filter::new(alloc),
+            spent: 0,
         }
     }
 
@@ -95,17 +108,18 @@ impl Committed {
             return;
         }
         self.filter.clear(&self.entries);
-        self.index.clear();
+        if self.index.listed() > 0 {
+            self.index.clear();
+        }
         self.entries.clear();
+        self.spent = 0;
     }
 
-    /// Makes room for about so many more entries, so that the filter and the index need not grow with
-    /// each of them. On `NoMemory` some of the room may have been made.
+    /// Makes room for about so many more entries, so that the filter need not grow with each of them.
     pub fn expect(&mut self, more: usize) -> Result<(), NoMemory>
         ensures { self.new ≡ self.old }
     {
         self.filter.reserve(&self.entries, more)?;
-        self.index.expect(more)?;
         Ok(())
     }
 
@@ -139,9 +153,7 @@ impl Committed {
     {
         self.entries.reserve(entries.len())?;
         self.filter.reserve(&self.entries, entries.len())?;
-        self.index.reserve(self.entries.len() + entries.len())?;
         put_all(&mut self.entries, &mut self.filter, entries);
-        self.index.list(&self.entries);
         Ok(())
     }
 
@@ -152,12 +164,56 @@ impl Committed {
         ensures summary { OnOk result (IsSummary self.new (self.old ++ entries_of entries.now)) }
         ensures kept { take (length self.old) self.new ≡ self.old }
     {
+        self.expect(entries.len())?;
         for marked in entries {
             if !self.covers(marked) {
-                self.append_marked(&[*marked])?;
+                self.put(marked)?;
             }
         }
         Ok(())
+    }
+
+    /// Appends an entry. Where one as strict may be there, which an index would find, this is noted.
+    fn put(&mut self, marked: &MarkedEntry) -> Result<(), NoMemory>
+        ensures ok { OnOk result (self.new ≡ self.old ++ marked.now.entry ∷ []) }
+        ensures err { OnErr result (self.new ≡ self.old) }
+    {
+        if self.filter.may_have(&marked.mark) {
+            self.spend(REPEATED)?;
+        }
+        self.entries.push(marked.entry)?;
+        self.filter.mark(&marked.mark);
+        Ok(())
+    }
+
+    /// Lists all entries in the index. Those who share the list then find what they ask for there.
+    ///
+    /// Returns `NoMemory` where a request for memory was refused. The list is as before.
+    pub fn list(&mut self) -> Result<(), NoMemory>
+        ensures { self.new ≡ self.old }
+    {
+        self.index.reserve(self.entries.len())?;
+        self.index.list(&self.entries);
+        self.spent = 0;
+        Ok(())
+    }
+
+    /// Notes that an index of all entries would have saved so many comparisons. It is made once these
+    /// took longer than to make it.
+    fn spend(&mut self, comparisons: usize) -> Result<(), NoMemory>
+        ensures { self.new ≡ self.old }
+    {
+        self.spent = self.spent.saturating_add(comparisons);
+        let listing = self.unlisted().saturating_mul(LISTING);
+        if self.spent > listing.max(FEW_COMPARISONS) {
+            self.list()?;
+        }
+        Ok(())
+    }
+
+    /// How many entries aren't listed in the index.
+    fn unlisted(&self) -> usize {
+        self.len().saturating_sub(self.index.listed())
     }
 
     /// Whether of each of these entries a listed one is known to be as strict, so that `append_new`
@@ -195,6 +251,37 @@ impl Committed {
         true
     }
 
+    /// Whether each of these entries commutes forward, over all states, with each of the first
+    /// `upto` entries of the list, as [`Committed::stands`] finds. It lists the entries in the index
+    /// once this pays.
+    ///
+    /// Returns `NoMemory` where a request for memory was refused. The list is as before.
+    pub fn check(&mut self, entries: &[MarkedEntry], upto: usize) -> Result<bool, NoMemory>
+        requires within { upto ≤ length self.old }
+        ensures stands { IfOk result (λ stands.
+            IsTrue stands ↔ AllCommute (entries_of entries.now) (take upto self.old)) }
+        ensures same { self.new ≡ self.old }
+    {
+        for marked in entries {
+            let met = self.met(&marked.mark);
+            if met != 0 {
+                self.spend(self.unlisted())?;
+            }
+            if !self.commutes_with_met(&marked.entry, met, upto) {
+                return Ok(false);
+            }
+        }
+        Ok(true)
+    }
+
+    /// The set of the classes of listed entries with which an entry with this mark may conflict.
+    fn met(&self, mark: &Mark) -> u16
+        ensures { (entry : OneEntry) → mark.now ≡ mark_of entry → (k : ℕ) → k < length self.now
+            → Meets result entry (slice_index_or self.now k entry) }
+    {
+        self.filter.met(mark)
+    }
+
     /// Whether the entry, which has this mark, commutes forward with each of the first `upto`
     /// entries.
     fn commutes_with(&self, entry: &Entry, mark: &Mark, upto: usize) -> bool
@@ -202,20 +289,22 @@ impl Committed {
         requires within { upto ≤ length self.now }
         ensures { IsTrue result ↔ CommutesWith entry.now (take upto self.now) }
     {
-        let met = self.filter.met(mark);
-        met == 0 || self.commutes_with_met(entry, mark, met, upto)
+        let met = self.met(mark);
+        self.commutes_with_met(entry, met, upto)
     }
 
     /// Whether an entry commutes forward with the first `upto` entries, where those with which it
     /// may not are of the classes `met`. It looks at the entries of its own object, class by class,
     /// and at those of its own item where the class asks for one.
-    fn commutes_with_met(&self, entry: &Entry, mark: &Mark, met: u16, upto: usize) -> bool
-        requires mark { mark.now ≡ mark_of entry.now }
+    fn commutes_with_met(&self, entry: &Entry, met: u16, upto: usize) -> bool
         requires within { upto ≤ length self.now }
         requires met { (k : ℕ) → k < upto
             → Meets met entry.now (slice_index_or self.now k entry.now) }
         ensures { IsTrue result ↔ CommutesWith entry.now (take upto self.now) }
     {
+        if met == 0 {
+            return true;
+        }
         if self.index.listed() == 0 {
             return commutes_past(entry, &self.entries, 0, upto);
         }

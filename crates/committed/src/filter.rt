@@ -18,6 +18,9 @@ const FEWEST: usize = 1024;
 /// How many sets it grows to.
 const MOST: usize = 1048576;
 
+/// How many sets are emptied in the time in which the sets of an entry are found.
+const SETS_FOR_AN_ENTRY: usize = 128;
+
 /// For each object, and for each item of an object, the classes of the entries about it. A set may
 /// have more classes, since others share it.
 #[derive(Drop)]
@@ -88,10 +91,15 @@ impl Filter {
     }
 
     /// Takes all classes out of the sets of these entries. Where they are all that it has, each set
-    /// is empty then. It costs no more than marking them did, however many sets there are.
+    /// is empty then. It costs no more than marking them did, however many sets there are. Where the
+    /// entries are many, all sets are emptied.
     pub fn clear(&mut self, entries: &[Entry])
         ensures { IsFilterOf [] self.new }
     {
+        if self.sets.len() / SETS_FOR_AN_ENTRY <= entries.len() {
+            self.sets.fill(0);
+            return;
+        }
         for entry in entries {
             let mark = Mark::of(entry);
             self.empty(mark.of_object);

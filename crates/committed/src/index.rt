@@ -9,7 +9,7 @@ ghost use Rattle.std.specs.Prelude.{◌≡◌, ◌<◌, ◌≤◌, ◌+◌, ◌-
 ghost use Rattle.indexmap.specs.IndexMap.{hasher_of, spare};
 ghost use Rattle.committed.specs.declared.index.TheConstants.{MOST_LISTED};
 ghost use Rattle.committed.specs.Summaries.{IsCovered};
-ghost use Rattle.committed.specs.Index.{number_of, link_at, IsBehind, IsLastOf, AreUpTo, IsNextLink, IsNextSpan, AreLinks, AreSpans, HasLasts, IsLinked, KeepsLinked, IsListedAt, IsIndexOf, StaysIndex, IndexHasRoom, HasRoomFor, AreListed, IsLastBelow, CommutesUnder};
+ghost use Rattle.committed.specs.Index.{number_of, link_at, IsBehind, IsLastOf, AreUpTo, IsNextLink, IsNextSpan, AreLinks, AreSpans, HasLasts, IsLinked, KeepsLinked, IsListedAt, IsIndexOf, StaysIndex, IndexHasRoom, AreListed, IsLastBelow, CommutesUnder};
 
 use crate::heading::Heading;
 use conflicts::is_as_strict;
@@ -17,9 +17,6 @@ use indexmap::IndexMap;
 use objects::{Entry, EntryHashing, commute};
 use serial::NoMemory;
 use std::alloc::Global;
-
-/// Up to how many entries none is listed: they are compared one by one sooner.
-const MOST_UNLISTED: usize = 32;
 
 /// How many entries are listed at most. Each has at most two links, which are counted in 32 bits.
 const MOST_LISTED: u32 = 2_147_483_647;
@@ -100,44 +97,26 @@ impl Index {
         self.listed as usize
     }
 
-    /// Makes room for about so many more entries, unless they are few. On `NoMemory` some of it may
-    /// have been made.
-    pub fn expect(&mut self, more: usize) -> Result<(), NoMemory>
-        ensures index { StaysIndex self.old self.new }
-        ensures listed { self.new.listed ≡ self.old.listed }
-    {
-        if more > MOST_UNLISTED {
-            self.links.reserve(more.saturating_mul(2))?;
-        }
-        Ok(())
-    }
-
-    /// Makes room to list so many entries in all, unless they are few.
+    /// Makes room to list so many entries in all. On `NoMemory` some of it may have been made.
     pub fn reserve(&mut self, count: usize) -> Result<(), NoMemory>
         ensures index { StaysIndex self.old self.new }
-        ensures room { OnOk result (HasRoomFor count self.new) }
+        ensures room { OnOk result (IndexHasRoom self.new (count - self.old.listed)) }
         ensures listed { self.new.listed ≡ self.old.listed }
     {
-        if count > MOST_UNLISTED {
-            let more = count.saturating_sub(self.listed as usize);
-            let links = more.saturating_mul(2);
-            self.last.reserve(links)?;
-            self.links.reserve(links)?;
-        }
+        let more = count.saturating_sub(self.listed as usize);
+        let links = more.saturating_mul(2);
+        self.last.reserve(links)?;
+        self.links.reserve(links)?;
         Ok(())
     }
 
-    /// Lists the entries that aren't listed, each under its object and its item. Of few it lists
-    /// none.
+    /// Lists the entries that aren't listed, each under its object and its item.
     pub fn list(&mut self, entries: &[Entry])
         requires index { IsIndexOf entries.now self.old }
-        requires room { HasRoomFor (length entries.now) self.old }
+        requires room { IndexHasRoom self.old (length entries.now - self.old.listed) }
         ensures index { IsIndexOf entries.now self.new }
         ensures all { AreListed entries.now self.new }
     {
-        if entries.len() <= MOST_UNLISTED {
-            return;
-        }
         let end = entries.len().min(MOST_LISTED as usize) as u32;
         for place in self.listed..end {
             self.put(entries, place);

@@ -47,7 +47,7 @@ fn refuted_in(
     assert!(rt; !stand_in(rt, committed, entries, upto));
 }
 
-/// A list of these entries.
+/// A list of these entries, which has no index.
 fn list_of(rt: &(impl Abort + AllocGlobal), entries: &[Entry]) -> Committed {
     let mut committed = Committed::new(rt.alloc());
     let Ok(()) = committed.append(entries) else {
@@ -56,14 +56,25 @@ fn list_of(rt: &(impl Abort + AllocGlobal), entries: &[Entry]) -> Committed {
     committed
 }
 
-/// Stops the test where the entries are not still valid after others.
-fn valid_after(rt: &(impl Abort + AllocGlobal), entries: &[Entry], others: &[Entry]) {
-    valid_in(rt, &list_of(rt, others), entries, others.len());
+/// A list of these entries, all of which are in its index.
+fn indexed_list_of(rt: &(impl Abort + AllocGlobal), entries: &[Entry]) -> Committed {
+    let mut committed = list_of(rt, entries);
+    let Ok(()) = committed.list() else {
+        panic!(rt; "no memory")
+    };
+    committed
 }
 
-/// Stops the test where the entries are still valid after others.
+/// Stops the test where the entries are not still valid after others, with an index or without one.
+fn valid_after(rt: &(impl Abort + AllocGlobal), entries: &[Entry], others: &[Entry]) {
+    valid_in(rt, &list_of(rt, others), entries, others.len());
+    valid_in(rt, &indexed_list_of(rt, others), entries, others.len());
+}
+
+/// Stops the test where the entries are still valid after others, with an index or without one.
 fn refuted_after(rt: &(impl Abort + AllocGlobal), entries: &[Entry], others: &[Entry]) {
     refuted_in(rt, &list_of(rt, others), entries, others.len());
+    refuted_in(rt, &indexed_list_of(rt, others), entries, others.len());
 }
 
 #[test]
@@ -87,6 +98,7 @@ fn stands(rt: HostRuntime) -> Result<(), Fail> {
     let mut committed = Committed::new(alloc);
     valid_in(&rt, &committed, &[deposit, balance], 0);
     committed.append(&[elsewhere, deposit, deposit])?;
+    committed.list()?;
     committed.append(&[balance])?;
     assert_eq!(rt; committed.len(), 4);
     valid_in(&rt, &committed, &[deposit, elsewhere], 3);
@@ -123,6 +135,7 @@ fn operations_on_other_items_stand(rt: HostRuntime) -> Result<(), Fail> {
     let alloc = rt.alloc();
     let mut committed = Committed::new(alloc);
     committed.append(&[first, put])?;
+    committed.list()?;
     valid_in(&rt, &committed, &[second, put], 2);
     refuted_in(&rt, &committed, &[first], 2);
     valid_after(&rt, &[first], &[put]);
@@ -159,7 +172,7 @@ fn runs_of_equal_entries_are_searched(rt: HostRuntime) -> Result<(), Fail> {
         enq(7),
         refused,
     ];
-    let committed = list_of(&rt, &entries);
+    let committed = indexed_list_of(&rt, &entries);
     assert_eq!(rt; committed.len(), 8);
     valid_in(&rt, &committed, &[enq(7), refused], 4);
     refuted_in(&rt, &committed, &[enq(7)], 8);
@@ -196,7 +209,7 @@ fn spans_of_raises_are_searched(rt: HostRuntime) -> Result<(), Fail> {
         raise(2),
         raise(8),
     ];
-    let committed = list_of(&rt, &entries);
+    let committed = indexed_list_of(&rt, &entries);
     valid_in(&rt, &committed, &[top(9), raise(6)], 7);
     refuted_in(&rt, &committed, &[top(8)], 7);
     valid_in(&rt, &committed, &[top(5)], 2);
@@ -224,7 +237,7 @@ fn dequeues_are_searched_by_item(rt: HostRuntime) -> Result<(), Fail> {
     let third = operation(QueueCall::Deq, QueueReply::Got(Item(3)));
     let none = operation(QueueCall::Deq, QueueReply::Empty);
     let length = operation(QueueCall::Length, QueueReply::Number(2));
-    let committed = list_of(&rt, &[first, enq, second]);
+    let committed = indexed_list_of(&rt, &[first, enq, second]);
     valid_in(&rt, &committed, &[third, enq], 3);
     refuted_in(&rt, &committed, &[second], 3);
     refuted_in(&rt, &committed, &[none], 3);
@@ -256,6 +269,7 @@ fn long_chains_are_searched(rt: HostRuntime) -> Result<(), Fail> {
     for number in 1..501u64 {
         committed.append(&[raise(number), raise(1)])?;
     }
+    committed.list()?;
     for number in 1..501u64 {
         let upto = 2 * number as usize;
         valid_in(&rt, &committed, &[top(number)], upto);
@@ -283,6 +297,7 @@ fn grown_lists_are_searched(rt: HostRuntime) -> Result<(), Fail> {
     for key in 0..4000u32 {
         committed.append(&[put(key % 7, key, 1)])?;
     }
+    committed.list()?;
     for key in 0..4000u32 {
         let upto = key as usize;
         valid_in(&rt, &committed, &[put(key % 7, key, 2)], upto);
@@ -310,6 +325,7 @@ fn a_cleared_list_is_used_again(rt: HostRuntime) -> Result<(), Fail> {
         for _ in 0..count {
             committed.append(&[balance])?;
         }
+        committed.list()?;
         refuted_in(&rt, &committed, &[deposit], 1);
         committed.clear();
         assert_eq!(rt; committed.len(), 0);
@@ -357,14 +373,17 @@ fn entries_are_left_out_where_one_is_as_strict(rt: HostRuntime) -> Result<(), Fa
         ..deposit
     };
     let mut committed = Committed::new(rt.alloc());
-    // Of few entries all are listed.
+    // Without an index all are appended.
     append_new_gives(&rt, &mut committed, &[deposit, another, deposit], 3);
     committed.clear();
     for object in 100..140u32 {
         committed.append(&[Entry { object, ..deposit }])?;
     }
+    append_new_gives(&rt, &mut committed, &[deposit], 41);
+    committed.list()?;
     append_new_gives(&rt, &mut committed, &[deposit, another, deposit], 41);
     append_new_gives(&rt, &mut committed, &[elsewhere, larger, another], 43);
+    committed.list()?;
     append_new_gives(&rt, &mut committed, &[smaller, larger, elsewhere], 44);
     assert!(rt; committed.entries().last() == Some(&smaller));
     Ok(())
@@ -389,6 +408,7 @@ fn entries_of_one_hash_are_told_apart(rt: HostRuntime) -> Result<(), Fail> {
         );
         committed.append(&[put(object, 7, 1), put(twin, 50920850, 2), put(object, 7, 1)])?;
     }
+    committed.list()?;
     for object in 0..40u32 {
         let twin = object + 2971215073;
         let upto = 3 * object as usize;
@@ -421,6 +441,7 @@ fn each_key_is_searched_by_itself(rt: HostRuntime) -> Result<(), Fail> {
     for key in 0..keys {
         committed.append(&[put_under(key as u32, 1)])?;
     }
+    committed.list()?;
     for place in 0..keys {
         let key = place as u32;
         let other = put_under(key, 2);
@@ -430,6 +451,56 @@ fn each_key_is_searched_by_itself(rt: HostRuntime) -> Result<(), Fail> {
         refuted_in(&rt, &committed, &[other], keys);
         valid_in(&rt, &committed, &[same, new], keys);
     }
+    Ok(())
+}
+
+/// Whether an entry is still valid after the first `upto` of a list, which gets its index once this
+/// pays.
+fn checked_in(
+    rt: &(impl Abort + AllocGlobal),
+    committed: &mut Committed,
+    entry: &Entry,
+    upto: usize,
+) -> bool {
+    let upto = upto.min(committed.len());
+    let Ok(stands) = committed.check(&[MarkedEntry::of(entry)], upto) else {
+        panic!(rt; "no memory")
+    };
+    stands
+}
+
+#[test]
+fn an_index_is_made_once_it_pays(rt: HostRuntime) -> Result<(), Fail> {
+    let keys: usize = 400;
+    let mut committed = Committed::new(rt.alloc());
+    for key in 0..keys {
+        committed.append_new(&[MarkedEntry::of(&put_under(key as u32, 1))])?;
+    }
+    // Each look compares with all entries, until enough did. All find the same.
+    for place in 0..keys {
+        let other = put_under(place as u32, 2);
+        let same = put_under(place as u32, 1);
+        assert!(rt; !checked_in(&rt, &mut committed, &other, keys));
+        assert!(rt; checked_in(&rt, &mut committed, &other, place));
+        assert!(rt; checked_in(&rt, &mut committed, &same, keys));
+    }
+    // What is listed is left out.
+    append_new_gives(
+        &rt,
+        &mut committed,
+        &[put_under(7, 1), put_under(9, 1)],
+        keys,
+    );
+    Ok(())
+}
+
+#[test]
+fn an_entry_is_not_appended_again_and_again(rt: HostRuntime) -> Result<(), Fail> {
+    let mut committed = Committed::new(rt.alloc());
+    for _ in 0..1000 {
+        committed.append_new(&[MarkedEntry::of(&put_under(7, 1))])?;
+    }
+    assert!(rt; committed.len() < 50);
     Ok(())
 }
 

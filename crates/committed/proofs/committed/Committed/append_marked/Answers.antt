@@ -1,6 +1,6 @@
 use Rattle.std.proofs.Common.{sym, ◌∙◌, subst}
 use Rattle.committed.specs.Filter.{IsFilterOf}
-use Rattle.committed.specs.Index.{IsIndexOf, AreListed}
+use Rattle.committed.specs.Index.{IsIndexOf}
 use Rattle.committed.specs.Summaries.{entries_of}
 use Rattle.committed.proofs.IndexLemmas.{index_more}
 use Rattle.committed.proofs.committed.Committed.append_marked.Goals as goal
@@ -8,7 +8,6 @@ use Rattle.committed.proofs.committed.Committed.append_marked.Goals as goal
 pub invariant_of-self : goal.invariant_of-self
 invariant_of-self c = record {
   index = subst (λ es. IsIndexOf es c.self.inside.index) (sym c.reserve.ensures.items) c.self.invariant.index;
-  all = subst (λ es. AreListed es c.self.inside.index) (sym c.reserve.ensures.items) c.self.invariant.all;
   filter = subst (λ es. IsFilterOf es c.self.inside.filter) (sym c.reserve.ensures.items) c.self.invariant.filter;
 }
 
@@ -19,24 +18,16 @@ reserve-requires-2 c = subst (λ es. IsFilterOf es c.self.inside.filter) (sym (c
 pub invariant_of-self-in_err-reserve-2 : goal.invariant_of-self-in_err-reserve-2
 invariant_of-self-in_err-reserve-2 c = record {
   index = subst (λ es. IsIndexOf es c.self.inside.index) (sym c.reserve.ensures.items) c.self.invariant.index;
-  all = subst (λ es. AreListed es c.self.inside.index) (sym c.reserve.ensures.items) c.self.invariant.all;
-  filter = subst (λ es. IsFilterOf es c.reserve-2.new.self) c.deref.ensures.value c.reserve-2.ensures.filter;
-}
-
-pub invariant_of-self-in_err-reserve-3 : goal.invariant_of-self-in_err-reserve-3
-invariant_of-self-in_err-reserve-3 c = record {
-  index = c.reserve-3.ensures.index c.reserve.new.self.items
-      (subst (λ es. IsIndexOf es c.self.inside.index) (sym c.reserve.ensures.items) c.self.invariant.index);
-  all = λ many. c.reserve-3.ensures.listed
-      ∙ subst (λ es. AreListed es c.self.inside.index) (sym c.reserve.ensures.items) c.self.invariant.all many;
   filter = subst (λ es. IsFilterOf es c.reserve-2.new.self) c.deref.ensures.value c.reserve-2.ensures.filter;
 }
 
 pub put_all-requires-clause-filter : goal.put_all-requires-clause-filter
 put_all-requires-clause-filter c = subst (λ es. IsFilterOf es c.reserve-2.new.self) c.deref.ensures.value c.reserve-2.ensures.filter
 
-pub list-requires-clause-index : goal.list-requires-clause-index
-list-requires-clause-index c = subst (λ es. IsIndexOf es c.reserve-3.new.self) (sym (c.deref-2.ensures.value ∙ c.put_all.ensures.entries))
-    (index_more c.reserve.new.self.items (entries_of c.args.entries.now) c.reserve-3.new.self
-    (c.reserve-3.ensures.index c.reserve.new.self.items
-    (subst (λ es. IsIndexOf es c.self.inside.index) (sym c.reserve.ensures.items) c.self.invariant.index)))
+pub invariant_of-self-2 : goal.invariant_of-self-2
+invariant_of-self-2 c = record {
+  index = subst (λ es. IsIndexOf es c.self.inside.index) (sym c.put_all.ensures.entries)
+      (index_more c.reserve.new.self.items (entries_of c.args.entries.now) c.self.inside.index
+      (subst (λ es. IsIndexOf es c.self.inside.index) (sym c.reserve.ensures.items) c.self.invariant.index));
+  filter = c.put_all.ensures.filter;
+}

@@ -1,8 +1,10 @@
-use Rattle.std.proofs.Common.{◌≡◌, List, Bool, true, false, arith, refl, sym, ap, ◌∙◌, subst, get_or, inl, inr}
+use Rattle.std.proofs.Common.{◌≡◌, ◌<◌, ℕ, List, Bool, true, false, arith, refl, sym, ap, ◌∙◌, subst, get_or, inl, inr}
 use Rattle.std.proofs.lemmas.Bool.{cases_lt, false≢true}
+use Rattle.std.proofs.lemmas.Nat.Bits.{bit_at-zero}
+use Rattle.std.specs.Int.{bit_at}
 use Rattle.objects.specs.declared.entry.Entry.{Entry}
 use Rattle.conflicts.specs.declared.classes.Class.{Class}
-use Rattle.conflicts.specs.Classes.{class_of}
+use Rattle.conflicts.specs.Classes.{class_of, class_number}
 use Rattle.conflicts.specs.Items.{is_compared}
 use Rattle.committed.specs.Headings.{heading_against}
 use Rattle.committed.specs.Index.{IsLinked, IsListed}
@@ -10,6 +12,18 @@ use Rattle.objects.specs.Entries.{CommuteForward}
 use Rattle.conflicts.proofs.EffectLemmas.{elsewhere}
 use Rattle.committed.proofs.StandsLemmas.{all_first, each_first, linked_against}
 use Rattle.committed.proofs.committed.Committed.commutes_with_met.Goals as goal
+
+pub returns-then-met-eq0 : goal.returns-then-met-eq0
+returns-then-met-eq0 c =
+    let e = c.args.entry.now in
+    let es = c.args.self.now in
+    let one : (k : ℕ) → k < c.args.upto → CommuteForward e (get_or es k e) = λ k before. elim (c.requires.met k before) [
+      | inl commutes ↦ commutes
+      | inr bit ↦ (let n : ℕ = class_number (class_of (get_or es k e).call (get_or es k e).reply) in
+          let none : bit_at c.args.met n ≡ 0 = ap (λ s. bit_at s n) c.if-met-eq0.true ∙ bit_at-zero n in
+          absurd (omega (arith, bit, none)))
+    ] in
+    (λ _. all_first e es c.args.upto c.requires.within one, λ _. refl)
 
 pub returns-then-listed-eq0 : goal.returns-then-listed-eq0
 returns-then-listed-eq0 c =

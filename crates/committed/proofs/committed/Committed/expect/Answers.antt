@@ -1,4 +1,4 @@
-use Rattle.std.proofs.Common.{sym, ◌∙◌, subst}
+use Rattle.std.proofs.Common.{sym, subst}
 use Rattle.committed.specs.Filter.{IsFilterOf}
 use Rattle.committed.proofs.committed.Committed.expect.Goals as goal
 
@@ -8,20 +8,11 @@ reserve-requires c = subst (λ es. IsFilterOf es c.self.inside.filter) (sym c.de
 pub invariant_of-self : goal.invariant_of-self
 invariant_of-self c = record {
   index = c.self.invariant.index;
-  all = c.self.invariant.all;
-  filter = subst (λ es. IsFilterOf es c.reserve.new.self) c.deref.ensures.value c.reserve.ensures.filter;
-}
-
-pub invariant_of-self-in_err-expect : goal.invariant_of-self-in_err-expect
-invariant_of-self-in_err-expect c = record {
-  index = c.expect.ensures.index c.self.inside.entries.items c.self.invariant.index;
-  all = λ many. c.expect.ensures.listed ∙ c.self.invariant.all many;
   filter = subst (λ es. IsFilterOf es c.reserve.new.self) c.deref.ensures.value c.reserve.ensures.filter;
 }
 
 pub invariant_of-self-2 : goal.invariant_of-self-2
 invariant_of-self-2 c = record {
-  index = c.expect.ensures.index c.self.inside.entries.items c.self.invariant.index;
-  all = λ many. c.expect.ensures.listed ∙ c.self.invariant.all many;
+  index = c.self.invariant.index;
   filter = subst (λ es. IsFilterOf es c.reserve.new.self) c.deref.ensures.value c.reserve.ensures.filter;
 }

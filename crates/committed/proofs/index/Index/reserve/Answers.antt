@@ -12,11 +12,11 @@ returns-in_err-reserve-clause-index c =
 pub returns-in_err-reserve-2-clause-index : goal.returns-in_err-reserve-2-clause-index
 returns-in_err-reserve-2-clause-index c =
     let old = c.args.self.now in
-    let new : Index = record { last = c.reserve.new.self; links = c.reserve-then-count-gt-MOST_UNLISTED.new.self; listed = old.listed } in
-    index_moved old new c.reserve.ensures.entries c.reserve-then-count-gt-MOST_UNLISTED.ensures.items refl
+    let new : Index = record { last = c.reserve.new.self; links = c.reserve-2.new.self; listed = old.listed } in
+    index_moved old new c.reserve.ensures.entries c.reserve-2.ensures.items refl
 
-pub returns-in_ok-reserve-2-clause-index : goal.returns-in_ok-reserve-2-clause-index
-returns-in_ok-reserve-2-clause-index c =
+pub returns-clause-index : goal.returns-clause-index
+returns-clause-index c =
     let old = c.args.self.now in
-    let new : Index = record { last = c.reserve.new.self; links = c.reserve-then-count-gt-MOST_UNLISTED.new.self; listed = old.listed } in
-    index_moved old new c.reserve.ensures.entries c.reserve-then-count-gt-MOST_UNLISTED.ensures.items refl
+    let new : Index = record { last = c.reserve.new.self; links = c.reserve-2.new.self; listed = old.listed } in
+    index_moved old new c.reserve.ensures.entries c.reserve-2.ensures.items refl
