@@ -40,7 +40,9 @@ pub(crate) fn round_from<T: Threads + Sync>(
     for place in opened..batch.transactions.len() {
         let run = run(threads, alloc, objects, batch, place as u32 + 1, 1, &NoGate)?;
         let marked = mark_all(alloc, &run.entries)?;
-        if !nets.stands(&marked, nets.len()) {
+        let listed = nets.len();
+        if !nets.check(&marked, listed)? {
+            nets.list()?;
             return Ok(Round {
                 passed,
                 nets,

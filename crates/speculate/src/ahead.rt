@@ -105,7 +105,8 @@ impl Ahead {
         ensures kept { IfOk result (λ tried. IfNone tried (kept.new ≡ kept.old)) }
         ensures view { IfOk result (λ tried. IfNone tried (view.new ≡ view.old)) }
     {
-        if !kept.stands(&self.summary, kept.len()) {
+        let listed = kept.len();
+        if !kept.check(&self.summary, listed)? {
             return Ok(None);
         }
         view.absorb(&self.entries, &self.net)?;

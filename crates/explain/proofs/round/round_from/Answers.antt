@@ -37,13 +37,14 @@ loop-place-preserved g c =
     (omega arith) c.requires.reached c.in_ok-run.ensures in
     let same : entries_of c.deref-in-loop-place.result.now ≡ made.entries.items =
     ap entries_of c.deref-in-loop-place.ensures.value ∙ c.in_ok-marked.ensures ∙ c.deref.ensures.value in
-    let stands = (with_all _ _ c.loop-place.nets _ same c.len.ensures).0 (c.stands.ensures.0 c.if-not-stands.false) in
+    let stands = (with_all _ _ c.loop-place.nets _ same c.len-listed.ensures).0 (c.in_ok-check.ensures.stands.0 c.if-not-branch.false) in
     one_more_passed c.args.batch.now c.args.opened c.loop-place.place c.loop-place.passed.items c.loop-place.nets c.loop-place.invariant
     made here c.append.new.self c.push.new.self.items (omega (arith, c.loop-place-test.true, c.len-place-end.ensures, blocks)) stands
-    (c.in_ok-append.ensures.ok ∙ ap (λ ns. c.loop-place.nets ++ ns) c.deref-in-loop-place-2.ensures.value) c.in_ok-push.ensures.items
+    (c.in_ok-append.ensures.ok ∙ ap (λ ns. ns ++ c.deref-in-loop-place-2.result.now) c.check.ensures.same
+    ∙ ap (λ ns. c.loop-place.nets ++ ns) c.deref-in-loop-place-2.ensures.value) c.in_ok-push.ensures.items
 
-pub returns-then-not-stands : goal.returns-then-not-stands
-returns-then-not-stands g c =
+pub returns-then-not-branch : goal.returns-then-not-branch
+returns-then-not-branch g c =
     let blocks : length (blocks_of c.args.batch.now) ≡ length c.args.batch.now.transactions.items =
     length-map c.args.batch.now.transactions.items block_view in
     let made = c.in_ok-run.run' in
@@ -52,15 +53,16 @@ returns-then-not-stands g c =
     let same : entries_of c.deref-in-loop-place.result.now ≡ made.entries.items =
     ap entries_of c.deref-in-loop-place.ensures.value ∙ c.in_ok-marked.ensures ∙ c.deref.ensures.value in
     let at = c.loop-place.invariant in
+    let listed = c.list.ensures ∙ c.check.ensures.same in
     let stop = stopped_by c.args.batch.now c.args.opened c.loop-place.place c.loop-place.passed.items c.loop-place.nets at made here
-    (record { passed = c.loop-place.passed; nets = c.loop-place.nets; conflict = Some made }) refl refl
+    (record { passed = c.loop-place.passed; nets = c.list.new.self; conflict = Some made }) refl listed
     (omega (arith, c.loop-place-test.true, c.len-place-end.ensures, blocks))
-    (λ commute. false≢true (sym c.if-not-stands.true
-    ∙ c.stands.ensures.1 ((with_all _ _ c.loop-place.nets _ same c.len.ensures).1 commute))) in
+    (λ commute. false≢true (sym c.if-not-branch.true
+    ∙ c.in_ok-check.ensures.stands.1 ((with_all _ _ c.loop-place.nets _ same c.len-listed.ensures).1 commute))) in
     record {
       opens = stop.0;
       passed_are = at.runs;
-      nets_are = left_is c.args.batch.now c.args.opened c.loop-place.place c.loop-place.passed.items c.loop-place.nets at;
+      nets_are = listed ∙ left_is c.args.batch.now c.args.opened c.loop-place.place c.loop-place.passed.items c.loop-place.nets at;
       stopped = stop.1;
     }
 
