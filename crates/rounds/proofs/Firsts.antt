@@ -8,6 +8,8 @@ use native.Mathlib.Decide.{dec_le}
 use Rattle.objects.specs.declared.entry.Entry.{Entry}
 use Rattle.rounds.specs.declared.pending_run.PendingRun.{PendingRun}
 use Rattle.rounds.specs.PendingRuns.{left_by, all_left, HoldsPast}
+use Rattle.committed.specs.Summaries.{entries_of}
+use Rattle.objects.proofs.ListLemmas.{all_commute_none}
 use Rattle.rounds.specs.Checks.{AreStarts, IsFirstFrom, IsSeenPast}
 
 -- the nets of two lists of runs
@@ -83,3 +85,7 @@ first_after past runs starts nets first upto are begin found size =
 -- all of the list
 pub all_taken : (nets : List Entry) (upto : ℕ) → upto ≡ length nets → take upto nets ≡ nets
 all_taken nets upto size = take_all upto nets (omega arith)
+
+-- a run stands past no entries
+pub past_none : (run : PendingRun) (es : List Entry) (n : ℕ) → n ≡ 0 → HoldsPast (take n es) run
+past_none run es n none = subst (λ n. HoldsPast (take n es) run) (sym none) (all_commute_none (entries_of run.sums.entries.items))

@@ -99,7 +99,7 @@ module _ (batch : Batch) (b first : ℕ) (state : State) (window : Window) (list
         let most = at.within in
         let from = seen.from in
         let stands = (stands_where_holds first d (omega arith) valid).0 holds in
-        let further = next.largest (first + 1) (omega arith) (λ i low high. elim (dec_le (first) i) [
+        let further = next.largest (first + 1) (omega arith) (λ i low high. elim (dec_le first i) [
           | no before ↦ next.all_keep i low (omega arith)
           | yes here ↦ subst (λ k. Keeps (start_of batch) (blocks_of batch) k b) (omega arith) stands
         ]) in

@@ -35,6 +35,28 @@ pub(crate) fn stands_past(runs: &[PendingRun], place: usize, nets: &Committed, u
     upto == 0 || nets.stands(&runs[place].sums.entries, upto)
 }
 
+/// Whether a run stands past the first `upto` entries of a list, as [`stands_past`] finds. The list
+/// gets its index once this pays.
+///
+/// Returns `NoMemory` where a request for memory was refused. The list is as before.
+pub(crate) fn check_past(
+    runs: &[PendingRun],
+    place: usize,
+    nets: &mut Committed,
+    upto: usize,
+) -> Result<bool, NoMemory>
+    requires place { place < length runs.now }
+    requires upto { upto ≤ length nets.old }
+    ensures stands { IfOk result (λ stands. IsTrue stands ↔ ((d : OnePending)
+        → HoldsPast (take upto nets.old) (slice_index_or runs.now place d))) }
+    ensures same { nets.new ≡ nets.old }
+{
+    if upto == 0 {
+        return Ok(true);
+    }
+    nets.check(&runs[place].sums.entries, upto)
+}
+
 /// Whether a run stands past all of a list, which has for each entry of its net one that is as strict.
 /// Listing its net would change nothing then.
 pub(crate) fn passes_list(run: &PendingRun, nets: &Committed) -> bool
@@ -121,6 +143,7 @@ pub(crate) fn check_at_once<R: Threads + Sync, G: Gate>(
 {
     let mut starts = Vec::new(workers.alloc);
     list_nets(runs, nets, &mut starts)?;
+    nets.list()?;
     let first = first_from(workers, before, runs, nets, &starts)?;
     if first < runs.len() {
         let upto = starts[first];

@@ -89,7 +89,7 @@ fn round<R: Threads + Sync, G: Gate>(job: &Job<R, G>, at: &mut Opening) -> Resul
     let runs = at.window.between(opened, first);
     commit(job, opened, runs, &mut at.objects)?;
     at.window
-        .keep_after(job, first, &at.reused.nets, seen.upto)?;
+        .keep_after(job, first, &mut at.reused.nets, seen.upto)?;
     at.window.settle(job.alloc, opened, first, &mut at.records)?;
     at.committed = first;
     at.window.shorten(job.batch.transactions.len());

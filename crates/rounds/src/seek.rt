@@ -6,7 +6,7 @@ ghost use Rattle.rounds.specs.Windows.{run_at, end_of, AllValid, IsWindowAt, IsL
 ghost use Rattle.rounds.specs.PendingRuns.{Passes};
 ghost use Rattle.rounds.specs.declared.pending_run.PendingRun.{PendingRun as OnePending};
 
-use crate::check::{FirstConflict, check_at_once, stands_past};
+use crate::check::{FirstConflict, check_at_once, check_past};
 use crate::job::{Job, makers};
 use crate::reused::Reused;
 use crate::window::Window;
@@ -37,7 +37,7 @@ fn check_next(
     if !passes {
         let upto = nets.len();
         let place = number - window.first;
-        if !stands_past(&window.runs, place, nets, upto) {
+        if !check_past(&window.runs, place, nets, upto)? {
             return Ok(false);
         }
         nets.append_new(window.runs[place].sums.net())?;
@@ -181,6 +181,7 @@ fn check<R: Threads + Sync, G: Gate>(
     if makers(job, block.end - block.start) == 1 {
         return check_in_turn(job, opened, block, workspace, window, nets);
     }
+    nets.list()?;
     let made = window.make_missing(job, workspace.objects(), block.start, block.end, nets)?;
     if job.plan.cut == 1 {
         return check_block(job, opened, block, window, nets);

@@ -12,7 +12,7 @@ ghost use Rattle.rounds.specs.declared.pending_run.PendingRun.{PendingRun as One
 ghost use Rattle.meaning.specs.declared.limits.TheConstants.{MAX_TRANSACTIONS};
 ghost use Rattle.plan.specs.declared.plan.TheConstants.{MAX_WORKERS};
 
-use crate::check::stands_past;
+use crate::check::{check_past, stands_past};
 use crate::job::{Job, checkers, makers};
 use crate::make::{NumberedRun, make_all};
 use crate::pending_run::PendingRun;
@@ -377,21 +377,28 @@ impl Window {
 
     // Keeps of the runs from one number on those that stand past what was committed. One worker
     // decides them in turn.
-    fn keep_in_turn<G: Gate>(&mut self, gate: &G, from: usize, nets: &Committed, upto: usize)
+    fn keep_in_turn<G: Gate>(
+        &mut self,
+        gate: &G,
+        from: usize,
+        nets: &mut Committed,
+        upto: usize,
+    ) -> Result<(), NoMemory>
         requires flags { length self.old.valid.items ≡ length self.old.runs.items }
         requires few { end_of self.old ≤ MAX_TRANSACTIONS }
-        requires upto { upto ≤ length nets.now }
+        requires upto { upto ≤ length nets.old }
         requires from { (self.old.first ≤ from) × (from ≤ end_of self.old) }
-        ensures { AreKept from (take upto nets.now) self.old self.new }
+        ensures { OnOk result (AreKept from (take upto nets.old) self.old self.new) }
     {
         for number in from..self.end() {
             let place = number - self.first;
             if self.valid[place] {
                 let piece = (number - from) as u32;
                 gate.pass(0, MAX_TRANSACTIONS as u32 + piece + 1);
-                self.valid[place] = stands_past(&self.runs, place, nets, upto);
+                self.valid[place] = check_past(&self.runs, place, nets, upto)?;
             }
         }
+        Ok(())
     }
 
     // Keeps of the runs from one number on those that stand past what was committed, which is the
@@ -400,20 +407,20 @@ impl Window {
         &mut self,
         job: &Job<R, G>,
         from: usize,
-        nets: &Committed,
+        nets: &mut Committed,
         upto: usize,
     ) -> Result<(), NoMemory>
         requires flags { length self.old.valid.items ≡ length self.old.runs.items }
         requires few { end_of self.old ≤ MAX_TRANSACTIONS }
-        requires upto { upto ≤ length nets.now }
+        requires upto { upto ≤ length nets.old }
         requires from { (self.old.first ≤ from) × (from ≤ end_of self.old) }
-        ensures { OnOk result (AreKept from (take upto nets.now) self.old self.new) }
+        ensures { OnOk result (AreKept from (take upto nets.old) self.old self.new) }
     {
         let workers = checkers(job, self.end() - from);
         if workers == 1 {
-            self.keep_in_turn(job.gate, from, nets, upto);
-            return Ok(());
+            return self.keep_in_turn(job.gate, from, nets, upto);
         }
+        nets.list()?;
         let fallen = self.fallen(job, workers, from, nets, upto)?;
         self.forget(&fallen);
         Ok(())
@@ -428,16 +435,16 @@ impl Window {
         &mut self,
         job: &Job<R, G>,
         conflict: usize,
-        nets: &Committed,
+        nets: &mut Committed,
         upto: usize,
     ) -> Result<(), NoMemory>
         requires flags { length self.old.valid.items ≡ length self.old.runs.items }
         requires few { end_of self.old ≤ MAX_TRANSACTIONS }
-        requires upto { upto ≤ length nets.now }
+        requires upto { upto ≤ length nets.old }
         requires from { (self.old.first ≤ conflict) × (conflict ≤ end_of self.old) }
         requires falls { (d : OnePending) → IsValid self.old conflict
-            → ¬ HoldsPast (take upto nets.now) (run_at self.old conflict d) }
-        ensures { OnOk result (AreKept conflict (take upto nets.now) self.old self.new) }
+            → ¬ HoldsPast (take upto nets.old) (run_at self.old conflict d) }
+        ensures { OnOk result (AreKept conflict (take upto nets.old) self.old self.new) }
     {
         if conflict == self.end() {
             return Ok(());

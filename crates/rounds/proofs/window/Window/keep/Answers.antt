@@ -2,13 +2,13 @@ use Rattle.std.proofs.Common.{ℕ, ◌<◌, ◌≤◌, length, get_or, take, sub
 use Rattle.rounds.proofs.Times.{times_read}
 use Rattle.rounds.proofs.Fallen.{fallen_within, kept_others}
 use Rattle.std.specs.List.{All}
-use Rattle.rounds.specs.Windows.{end_of, AreStale}
+use Rattle.rounds.specs.Windows.{end_of, AreKept, AreStale}
 use Rattle.rounds.proofs.window.Window.keep.Goals as goal
 
 pub forget-requires-clause-within : goal.forget-requires-clause-within
 forget-requires-clause-within g c k d lt =
     let window = c.args.self.now in
-    let since = take c.args.upto c.args.nets.now in
+    let since = take c.args.upto c.list.new.self in
     let numbers = c.in_ok-fallen.fallen.items in
     let low = c.requires.from.0 in
     let inside = fallen_within window since c.args.from (end_of window) numbers c.in_ok-fallen.ensures in
@@ -22,6 +22,7 @@ pub returns : goal.returns
 returns g c =
     let window = c.args.self.now in
     let numbers = c.in_ok-fallen.fallen.items in
-    kept_others window (take c.args.upto c.args.nets.now) c.args.from numbers c.forget.new.self c.requires.from.0 c.requires.flags
+    subst (λ nets. AreKept c.args.from (take c.args.upto nets) window c.forget.new.self) c.list.ensures
+    (kept_others window (take c.args.upto c.list.new.self) c.args.from numbers c.forget.new.self c.requires.from.0 c.requires.flags
     c.in_ok-fallen.ensures
-    (subst (λ ns. AreStale ns window c.forget.new.self) c.deref.ensures.value c.forget.ensures)
+    (subst (λ ns. AreStale ns window c.forget.new.self) c.deref.ensures.value c.forget.ensures))
