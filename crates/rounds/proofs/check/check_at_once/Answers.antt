@@ -8,8 +8,8 @@ use Rattle.rounds.proofs.check.check_at_once.Goals as goal
 pub first_from-requires-clause-within : goal.first_from-requires-clause-within
 first_from-requires-clause-within g c κs within i lt =
     let begin = subst (AreStarts c.args.nets.now c.args.runs.now) (sym c.deref.ensures.value) c.in_ok-list_nets.ensures.starts in
-    front_within c.args.nets.now c.args.runs.now i (get_or c.deref.result.now i 0) c.list.new.self (c.list.ensures ∙ c.in_ok-list_nets.ensures.nets)
-    (begin.each i lt)
+    front_within c.args.nets.now c.args.runs.now i (get_or c.deref.result.now i 0) c.list.new.self
+    (c.list.ensures ∙ c.in_ok-list_nets.ensures.nets) (begin.each i lt)
 
 pub returns-then-first-runs-clause-seen : goal.returns-then-first-runs-clause-seen
 returns-then-first-runs-clause-seen g c =
