@@ -23,8 +23,8 @@ const LISTING: usize = 16;
 /// How many comparisons are too few for an index, however few entries there are.
 const FEW_COMPARISONS: usize = 1024;
 
-/// How many comparisons are taken to come of an entry that is perhaps listed twice. It is listed if
-/// there are more of these than half of the entries.
+/// For how many comparisons an entry counts that may be in the list already. An index would leave it
+/// out. So the list gets its index where more than half of its entries may have been there before.
 const REPEATED: usize = 32;
 
 /// For how many links of its index a list may have memory that is kept when it is cleared.
@@ -48,7 +48,8 @@ pub struct Committed {
     index: Index,
     /// Clears most of the entries that commute forward with all listed ones.
     filter: Filter,
-    /// About how many comparisons an index of all entries would have saved since some were listed.
+    /// About how many comparisons an index of all entries would have saved since entries were last
+    /// listed there.
     spent: usize,
 }
 
@@ -173,7 +174,8 @@ impl Committed {
         Ok(())
     }
 
-    /// Appends an entry. Where one as strict may be there, which an index would find, this is noted.
+    /// Appends an entry. Where one as strict may be there already, this counts towards making the
+    /// index, which would find it.
     fn put(&mut self, marked: &MarkedEntry) -> Result<(), NoMemory>
         ensures ok { OnOk result (self.new ≡ self.old ++ marked.now.entry ∷ []) }
         ensures err { OnErr result (self.new ≡ self.old) }
@@ -198,6 +200,18 @@ impl Committed {
         Ok(())
     }
 
+    /// Lists the entries that aren't in the index, where others are.
+    ///
+    /// Returns `NoMemory` where a request for memory was refused. The list is as before.
+    pub fn list_rest(&mut self) -> Result<(), NoMemory>
+        ensures { self.new ≡ self.old }
+    {
+        match self.index.listed() {
+            0 => Ok(()),
+            _ => self.list(),
+        }
+    }
+
     /// Notes that an index of all entries would have saved so many comparisons. It is made once these
     /// took longer than to make it.
     fn spend(&mut self, comparisons: usize) -> Result<(), NoMemory>
@@ -217,10 +231,14 @@ impl Committed {
     }
 
     /// Whether of each of these entries a listed one is known to be as strict, so that `append_new`
-    /// appends none of them. It takes no memory.
+    /// appends none of them. Where some of the list isn't in its index, none is known to be. It takes
+    /// no memory.
     pub fn covers_all(&self, entries: &[MarkedEntry]) -> bool
         ensures { IsTrue result → IsSummary self.now (self.now ++ entries_of entries.now) }
     {
+        if self.unlisted() > 0 {
+            return false;
+        }
         for marked in entries {
             if !self.covers(marked) {
                 return false;

@@ -181,7 +181,7 @@ fn check<R: Threads + Sync, G: Gate>(
     if makers(job, block.end - block.start) == 1 {
         return check_in_turn(job, opened, block, workspace, window, nets);
     }
-    nets.list()?;
+    nets.list_rest()?;
     let made = window.make_missing(job, workspace.objects(), block.start, block.end, nets)?;
     if job.plan.cut == 1 {
         return check_block(job, opened, block, window, nets);

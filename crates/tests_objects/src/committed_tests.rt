@@ -504,6 +504,21 @@ fn an_entry_is_not_appended_again_and_again(rt: HostRuntime) -> Result<(), Fail>
     Ok(())
 }
 
+#[test]
+fn a_list_covers_what_is_in_its_index(rt: HostRuntime) -> Result<(), Fail> {
+    let (first, second) = (put_under(7, 1), put_under(9, 1));
+    let mut committed = list_of(&rt, &[first]);
+    committed.list_rest()?;
+    assert!(rt; !committed.covers_all(&[MarkedEntry::of(&first)]));
+    committed.list()?;
+    assert!(rt; committed.covers_all(&[MarkedEntry::of(&first)]));
+    committed.append(&[second])?;
+    assert!(rt; !committed.covers_all(&[MarkedEntry::of(&first)]));
+    committed.list_rest()?;
+    assert!(rt; committed.covers_all(&[MarkedEntry::of(&first), MarkedEntry::of(&second)]));
+    Ok(())
+}
+
 /// Stops the test where a summary of two and the entries that it stands for differ: whether they
 /// are valid after another entry, and whether it is valid after them.
 fn summary_is_as(
