@@ -4,8 +4,8 @@ use Rattle.std.specs.Prelude.{slice_get}
 use Rattle.std.proofs.lemmas.List.{length-set}
 use Rattle.serial.specs.Places.{after_found}
 use Rattle.objects.specs.declared.entry.Entry.{Entry}
-use Rattle.objects.specs.declared.value.Value.{Value}
-use Rattle.objects.specs.declared.call.Call.{Call}
+use Rattle.objects.specs.declared.kind.Value.{Value}
+use Rattle.objects.specs.declared.kind.Call.{Call}
 use Rattle.objects.specs.Objects.{one_value}
 use Rattle.objects.specs.Entries.{State, after_call, after, AreLegal, AllHaveRoom, AllCommute}
 

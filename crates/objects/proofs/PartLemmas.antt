@@ -6,14 +6,14 @@ use Rattle.std.proofs.lemmas.List.{length-set, drop-set-lt, drop-set-add, take-s
 use Rattle.std.proofs.lemmas.Option.{slice_get_within}
 use Rattle.std.proofs.Math.Seq.{take-set-lt, take-length, take-add, take-append_seam, drop-append_seam}
 use Rattle.serial.specs.Places.{after_found}
-use Rattle.objects.specs.declared.value.Value.{Value}
-use Rattle.objects.specs.declared.call.Call.{Call}
+use Rattle.objects.specs.declared.kind.Value.{Value}
+use Rattle.objects.specs.declared.kind.Call.{Call}
 use Rattle.objects.specs.declared.entry.Entry.{Entry}
 use Rattle.objects.specs.Objects.{one_value, kind_of_value, kind_of_call, HasRoom}
 use Rattle.objects.specs.Entries.{State, after_call, AreLegal, AllHaveRoom, after}
 use Rattle.objects.specs.Parts.{IsPart, IfAmong, IsPerformedOn, ArePerformedOn, CanPerformOn}
 use Rattle.objects.specs.Lending.{written_over}
-use Rattle.objects.proofs.CommuteLemmas.{kinds_agree}
+use Rattle.objects.proofs.KindLemmas.{kinds_agree}
 use Rattle.objects.proofs.ListLemmas.{after-append, legal_parts, room_parts, length-after}
 
 -- ---- a value of a part

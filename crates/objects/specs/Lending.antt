@@ -1,8 +1,8 @@
 -- What a list of objects becomes where its values were borrowed to be changed in place.
 use Rattle.std.specs.Prelude.{List, ◌++◌, length, take, drop}
 use Rattle.std.specs.Borrow.{Lends, MutBor, Fml, Array}
-use Rattle.objects.specs.declared.value.Value.{Value}
-use Rattle.objects.specs.contracts.value.Value as one_value_type
+use Rattle.objects.specs.declared.kind.Value.{Value}
+use Rattle.objects.specs.contracts.kind.Value as one_value_type
 use Rattle.objects.specs.contracts.objects.Objects.{the_row}
 
 -- the old values where these are written over the first of them

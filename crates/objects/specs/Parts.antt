@@ -1,7 +1,7 @@
 -- Some of the objects, side by side.
 use Rattle.std.specs.Prelude.{◌≡◌, ◌+◌, ℕ, List, length, take, drop, slice_get, IfSome, IsSomeAnd}
-use Rattle.objects.specs.declared.value.Value.{Value}
-use Rattle.objects.specs.declared.call.Call.{Call}
+use Rattle.objects.specs.declared.kind.Value.{Value}
+use Rattle.objects.specs.declared.kind.Call.{Call}
 use Rattle.objects.specs.declared.entry.Entry.{Entry}
 use Rattle.objects.specs.Entries.{State, after_call, AreLegal, AllHaveRoom, after}
 

@@ -1,4 +1,4 @@
-use Rattle.objects.proofs.ChangeLemmas.{objects_take_back, objects_rewind}
+use Rattle.objects.proofs.KindLemmas.{objects_take_back, objects_rewind}
 use Rattle.objects.proofs.laws.calls_are_undone.Goals as goal
 
 pub returns-clause-one : goal.returns-clause-one

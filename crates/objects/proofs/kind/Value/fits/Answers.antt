@@ -1,5 +1,5 @@
 use Rattle.std.proofs.Common.{rules}
-use Rattle.objects.proofs.value.Value.fits.Goals as goal
+use Rattle.objects.proofs.kind.Value.fits.Goals as goal
 
 pub returns : goal.returns
 returns c = search rules
