@@ -8,7 +8,7 @@ use Rattle.atoms.specs.declared.item.Item.{Item}
 use Rattle.objects.specs.declared.call.Call.{Call}
 use Rattle.objects.specs.declared.value.Value.{Value}
 use Rattle.objects.specs.Contents.{Content, Set, Queue, Directory, content_of}
-use Rattle.vocabulary.specs.Verbs.{ItemsAre, phrase_of}
+use Rattle.vocabulary.specs.Words.{ItemsAre, phrase_of}
 use Rattle.meaning.specs.declared.template.Argument.{Argument}
 use Rattle.meaning.specs.declared.template.Argument.TheVariants.{Is, From}
 use Rattle.meaning.specs.declared.template.Template.{Template}

@@ -2,7 +2,7 @@
 use Rattle.std.specs.Prelude.{List, [], ◌∷◌}
 use Rattle.std.proofs.Props.{props}
 use Rattle.objects.specs.declared.call.Call.{Call}
-use Rattle.vocabulary.specs.Verbs.{ItemsAre, phrase_of}
+use Rattle.vocabulary.specs.Words.{ItemsAre, phrase_of}
 use Rattle.vocabulary.specs.declared.verb.Phrase.{Phrase}
 use Rattle.vocabulary.specs.declared.verb.Phrase.TheVariants.{OfAmount, OfItem, OfPair, Alone}
 use Rattle.objects.specs.declared.value.Value.{Value}

@@ -4,8 +4,7 @@ use Rattle.std.specs.Prelude.{codes}
 use Rattle.std.specs.Str.{bytes_eq}
 use Rattle.objects.specs.declared.kind.Kind.{Kind}
 use Rattle.objects.specs.declared.kind.Kind.TheVariants as kind
-use Rattle.vocabulary.specs.Verbs.{verb_of_text}
-use Rattle.vocabulary.specs.Words.{kind_of_text, kind_text}
+use Rattle.vocabulary.specs.Words.{kind_of_text, kind_text, verb_of_text}
 use Rattle.vocabulary.specs.declared.verb.ItemVerb.TheVariants.{Enq}
 use Rattle.vocabulary.specs.declared.verb.LoneVerb.TheVariants.{Deq, Length}
 use Rattle.vocabulary.specs.declared.verb.Verb.{Verb}

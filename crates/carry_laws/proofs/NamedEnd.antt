@@ -11,8 +11,7 @@ use Rattle.objects.specs.declared.call.Call.TheVariants as to
 use Rattle.objects.specs.declared.call.Reply.{Reply}
 use Rattle.objects.specs.declared.value.Value.{Value}
 use Rattle.objects.specs.declared.value.Value.TheVariants as value
-use Rattle.vocabulary.proofs.Responses.{item_reply}
-use Rattle.vocabulary.proofs.Verbs.{directory_items, queue_items, set_items}
+use Rattle.vocabulary.proofs.Words.{amount_phrase, directory_items, item_phrase, item_reply, pair_phrase, queue_items, set_items}
 use Rattle.meaning.specs.declared.end.End.TheVariants.{Ended, Aborted}
 use Rattle.meaning.specs.declared.held.Held.{Held}
 use Rattle.meaning.specs.Trees.{Block, NoStep, Steps, Step, Operation, Fill, If, Subaction, Abort, Parallel, Handlers, ForReason}
@@ -42,8 +41,7 @@ use Rattle.std.specs.FinMap as finite_map
 use Rattle.std.specs.List.{All}
 use Rattle.std.specs.Option.{ForSome, option_and_then}
 use Rattle.std.specs.Prelude.{is_some, option_map}
-use Rattle.vocabulary.proofs.Verbs.{amount_phrase, item_phrase, pair_phrase}
-use Rattle.vocabulary.specs.Verbs.{ItemsAre, amount_call, item_call, pair_call}
+use Rattle.vocabulary.specs.Words.{ItemsAre, amount_call, item_call, pair_call}
 use Rattle.vocabulary.specs.declared.verb.AmountVerb.{AmountVerb}
 use Rattle.vocabulary.specs.declared.verb.ItemVerb.{ItemVerb}
 use Rattle.vocabulary.specs.declared.verb.PairVerb.{PairVerb}

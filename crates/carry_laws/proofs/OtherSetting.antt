@@ -28,7 +28,7 @@ use Rattle.doc_rules.specs.declared.rule.Rule.{Rule}
 use Rattle.doc_rules.specs.declared.rule.Rule.TheVariants.{Depth, KnownObject, KnownOperation, Name, Shape}
 use Rattle.doc_rules.specs.declared.rule.Rule.TheVariants as rule
 use Rattle.doc_rules.specs.declared.rule.ShapeRule.TheVariants as shape
-use Rattle.vocabulary.specs.Verbs.{amount_call, verb_of_text}
+use Rattle.vocabulary.specs.Words.{amount_call, verb_of_text}
 use Rattle.vocabulary.specs.declared.verb.Verb.{Verb}
 use Rattle.vocabulary.specs.declared.verb.Verb.TheVariants.{OfAmount, OfItem, OfPair, Alone}
 use Rattle.vocabulary.specs.declared.verb.LoneVerb.TheVariants.{Balance}

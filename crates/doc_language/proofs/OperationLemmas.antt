@@ -16,7 +16,7 @@ use Rattle.meaning.specs.declared.template.Template.{Template}
 use Rattle.meaning.specs.declared.template.Template.TheVariants as template
 use Rattle.vocabulary.specs.declared.verb.Verb.{Verb}
 use Rattle.vocabulary.specs.declared.verb.Verb.TheVariants.{OfAmount, OfItem, OfPair, Alone}
-use Rattle.vocabulary.specs.Verbs.{amount_call, verb_of_text}
+use Rattle.vocabulary.specs.Words.{amount_call, verb_of_text}
 use Rattle.batch.specs.Names.{is_name}
 use Rattle.doc_rules.specs.declared.failure.Failure.{Failure}
 use Rattle.doc_rules.specs.declared.subject.Subject.{Subject}

@@ -14,7 +14,7 @@ use Rattle.objects.specs.Contents.{form_of, number_value}
 use Rattle.objects.specs.declared.value.Value.{Value}
 use Rattle.objects.specs.declared.value.Value.TheVariants as value
 use Rattle.objects.specs.Entries.{kinds}
-use Rattle.vocabulary.specs.Verbs.{amount_call, lone_call, verb_of_text}
+use Rattle.vocabulary.specs.Words.{amount_call, lone_call, verb_of_text}
 use Rattle.vocabulary.specs.declared.verb.Verb.{Verb}
 use Rattle.vocabulary.specs.declared.verb.Verb.TheVariants.{OfAmount, OfItem, OfPair, Alone}
 use Rattle.meaning.specs.declared.limits.TheConstants.{MAX_DEPTH}

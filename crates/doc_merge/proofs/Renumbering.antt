@@ -18,8 +18,8 @@ use Rattle.meaning.specs.declared.test.Test.TheVariants.{IsItem}
 use Rattle.meaning.specs.Trees.{Block, If, Abort, Parallel, Handlers, Otherwise}
 use Rattle.meaning.specs.Trees.{handlers_of}
 use Rattle.batch.specs.Views.{Tried, children_of, steps_of}
-use Rattle.vocabulary.specs.Verbs.{amount_call}
-use Rattle.vocabulary.proofs.Verbs.{amount_phrase, item_phrase, lone_phrase, pair_phrase}
+use Rattle.vocabulary.specs.Words.{amount_call}
+use Rattle.vocabulary.proofs.Words.{amount_phrase, item_phrase, lone_phrase, pair_phrase}
 use Rattle.vocabulary.specs.declared.verb.AmountVerb.{AmountVerb}
 use Rattle.vocabulary.specs.declared.verb.ItemVerb.{ItemVerb}
 use Rattle.vocabulary.specs.declared.verb.PairVerb.{PairVerb}

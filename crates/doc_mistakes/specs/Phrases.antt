@@ -2,14 +2,12 @@
 use Rattle.std.specs.Prelude.{ℕ, List, ◌++◌, codes, Option, Some, None, decimal, if◌then◌else◌}
 use Rattle.serde_json.specs.Data.{Data}
 use Rattle.serde_json.specs.Find.{get}
-use Rattle.objects.specs.declared.kind.Kind.{Kind}
-use Rattle.objects.specs.declared.kind.Kind.TheVariants as kind
 use Rattle.batch.specs.Names.{has_long_names, most_name_bytes}
 use Rattle.doc_rules.specs.declared.form.Form.{Form}
 use Rattle.doc_rules.specs.declared.form.Form.TheVariants as form
 use Rattle.doc_rules.specs.declared.subject.Subject.{Subject}
 use Rattle.doc_rules.specs.declared.subject.Subject.TheVariants.{Reply, Outcome}
-use Rattle.vocabulary.specs.Verbs.{verb_text}
+use Rattle.vocabulary.specs.Words.{verb_text}
 use Rattle.doc_mistakes.specs.Shown.{grouped, shown}
 
 abbrev pub missing : List ℕ → List ℕ
@@ -49,14 +47,6 @@ form_text form.If = codes "an if"
 form_text form.Subaction = codes "a subaction"
 form_text form.Abort = codes "an abort"
 form_text form.Parallel = codes "a parallel step"
-
-abbrev pub a_kind : Kind → List ℕ
-a_kind kind.Account = codes "an account"
-a_kind kind.Counter = codes "a counter"
-a_kind kind.Set = codes "a set"
-a_kind kind.Queue = codes "a queue"
-a_kind kind.Directory = codes "a directory"
-a_kind kind.Max = codes "a maximum register"
 
 abbrev pub subject_text : Subject → List ℕ
 subject_text (Reply v) = codes "the reply of \"" ++ verb_text v ++ codes "\""

@@ -33,11 +33,10 @@ use Rattle.doc_rules.specs.declared.subject.Subject.TheVariants.{Reply, Outcome}
 use Rattle.doc_rules.specs.Limits.{limits_of}
 use Rattle.vocabulary.specs.declared.verb.Verb.{Verb}
 use Rattle.vocabulary.specs.declared.verb.Verb.TheVariants.{OfAmount, OfItem, OfPair, Alone}
-use Rattle.vocabulary.specs.Verbs.{verb_of_text, verb_text}
-use Rattle.vocabulary.specs.Words.{kind_of_text}
+use Rattle.vocabulary.specs.Words.{a_kind, kind_of_text, verb_of_text, verb_text}
 use Rattle.doc_mistakes.specs.declared.steps.TheConstants.{ELSE_SINCE, REASONS_SINCE}
 use Rattle.doc_mistakes.specs.Parts.{has_sort, index_of, is_list, is_text, operand, source as source_in, unknown_member, unnamed_reason}
-use Rattle.doc_mistakes.specs.Phrases.{a_kind, form_text, missing, more_than, no_item, no_label, no_name, no_number, too_new, wanting}
+use Rattle.doc_mistakes.specs.Phrases.{form_text, missing, more_than, no_item, no_label, no_name, no_number, too_new, wanting}
 use Rattle.doc_mistakes.specs.Phrases.{wanting_at}
 use Rattle.doc_mistakes.specs.Shown.{grouped, shown, shown_in}
 

@@ -12,7 +12,7 @@ ghost use Rattle.serde_json.specs.Data.{string};
 
 use crate::parts::{is_text, unknown_member, unnamed_reason};
 use crate::phrases::{
-    a_kind, form_text, write_around, write_missing, write_no_name, write_too_new, write_wanting_at,
+    form_text, write_around, write_missing, write_no_name, write_too_new, write_wanting_at,
 };
 use crate::shown::{quoted, shown, write_grouped};
 use doc_rules::{Form, LAST_VERSION};
@@ -20,7 +20,7 @@ use meaning::limits::MAX_START;
 use objects::{Kind, ValueForm};
 use serde_json::Value;
 use std::alloc::{AllocError, Global};
-use vocabulary::kind_of_text;
+use vocabulary::{a_kind, kind_of_text};
 
 /// Writes which member an object of the form doesn't have.
 #[tactic(auto, unfolding(crate::specs::Words::members_said))]

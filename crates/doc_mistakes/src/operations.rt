@@ -3,18 +3,18 @@
 
 ghost use Rattle.std.specs.Prelude.{◌≡◌, ◌++◌, OnOk, codes, option_map, string_bytes};
 ghost use Rattle.serde_json.specs.View.{view};
-ghost use Rattle.vocabulary.specs.Verbs.{verb_text};
+ghost use Rattle.vocabulary.specs.Words.{verb_text};
 ghost use Rattle.doc_mistakes.specs.Words.{amount_said, is_last_operation, named_said, operand_said, operation_of_said, operation_said, taken};
 
 use crate::parts::{is_list, is_text, operand};
-use crate::phrases::{a_kind, write_around, write_too_new, write_wanting};
+use crate::phrases::{write_around, write_too_new, write_wanting};
 use crate::shown::{shown, write_grouped};
 use atoms::Amount;
 use doc_rules::LAST_VERSION;
 use objects::Kind;
 use serde_json::Value;
 use std::alloc::{AllocError, Global};
-use vocabulary::Verb;
+use vocabulary::{Verb, a_kind};
 
 /// Writes why an operation has no object, or no operation, at its place.
 #[tactic(auto, unfolding(crate::specs::Words::operand_said))]

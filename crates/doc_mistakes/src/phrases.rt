@@ -3,13 +3,12 @@
 
 ghost use Rattle.std.specs.Prelude.{◌≡◌, ◌++◌, OnOk, option_map, string_bytes};
 ghost use Rattle.serde_json.specs.View.{view};
-ghost use Rattle.doc_mistakes.specs.Phrases.{a_kind, form_text, missing, more_than, no_item, no_label, no_name, no_number, signs_text, subject_text, too_new, wanting, wanting_at};
+ghost use Rattle.doc_mistakes.specs.Phrases.{form_text, missing, more_than, no_item, no_label, no_name, no_number, signs_text, subject_text, too_new, wanting, wanting_at};
 ghost use Rattle.doc_mistakes.specs.Shown.{shown, shown_in};
 
 use crate::shown::{shown, shown_in, write_grouped};
 use batch::{has_long_names, most_name_bytes};
 use doc_rules::{Form, Subject};
-use objects::Kind;
 use serde_json::Value;
 use std::alloc::{AllocError, Global};
 
@@ -154,20 +153,6 @@ pub(crate) fn form_text(form: Form) -> &'static str
         Form::Subaction => "a subaction",
         Form::Abort => "an abort",
         Form::Parallel => "a parallel step",
-    }
-}
-
-/// An object of a kind.
-pub(crate) fn a_kind(kind: Kind) -> &'static str
-    ensures { result.now ≡ a_kind kind }
-{
-    match kind {
-        Kind::Account => "an account",
-        Kind::Counter => "a counter",
-        Kind::Set => "a set",
-        Kind::Queue => "a queue",
-        Kind::Directory => "a directory",
-        Kind::Max => "a maximum register",
     }
 }
 

@@ -1,6 +1,6 @@
 -- What labels are of, and which tests fit them.
 use Rattle.std.specs.Prelude.{Bool, false}
-use Rattle.vocabulary.specs.Verbs.{has_item, has_number, has_word}
+use Rattle.vocabulary.specs.Words.{has_item, has_number, has_word}
 use Rattle.vocabulary.specs.declared.word.Word.{Word}
 use Rattle.meaning.specs.WellFormed.{is_outcome_word}
 use Rattle.doc_rules.specs.declared.subject.Subject.{Subject}

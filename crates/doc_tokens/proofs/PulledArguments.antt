@@ -14,7 +14,7 @@ use Rattle.vocabulary.specs.declared.verb.ItemVerb.{ItemVerb}
 use Rattle.vocabulary.specs.declared.verb.PairVerb.{PairVerb}
 use Rattle.vocabulary.specs.declared.verb.LoneVerb.{LoneVerb}
 use Rattle.vocabulary.specs.declared.verb.Verb.TheVariants.{OfAmount, OfItem, OfPair, Alone}
-use Rattle.vocabulary.specs.Verbs.{amount_call, lone_call}
+use Rattle.vocabulary.specs.Words.{amount_call, lone_call}
 use Rattle.batch.specs.Names.{is_name}
 use Rattle.meaning.specs.WellFormed.{largest_amount}
 use Rattle.meaning.specs.declared.template.Argument.{Argument}

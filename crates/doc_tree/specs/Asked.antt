@@ -36,8 +36,7 @@ use Rattle.doc_tree.specs.Look.{or_empty, within}
 use Rattle.doc_tree.specs.Scope.{Table, Setting, Scope, is_listed, kind_named, named, is_named, with_label, with_labels}
 use Rattle.batch.specs.Names.{is_name}
 use Rattle.doc_rules.specs.Subjects.{fits_word, fits_number, fits_item}
-use Rattle.vocabulary.specs.Verbs.{verb_of_text}
-use Rattle.vocabulary.specs.Words.{kind_of_text, word_of_text}
+use Rattle.vocabulary.specs.Words.{kind_of_text, verb_of_text, word_of_text}
 use Rattle.meaning.specs.declared.limits.TheConstants.{MAX_START}
 use Rattle.doc_rules.specs.Limits.{limits_of}
 use Rattle.doc_rules.specs.declared.limits.TheConstants.{LAST_VERSION}

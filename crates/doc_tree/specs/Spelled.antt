@@ -38,7 +38,7 @@ use Rattle.doc_tree.specs.declared.steps.Sort.TheVariants.{Parallel as a_paralle
 use Rattle.meaning.specs.Amounts.{amount_of}
 use Rattle.doc_tree.specs.Look.{has, text_member, whole_member, or_empty}
 use Rattle.doc_tree.specs.Scope.{Numbers, no_numbers, Setting, Scope, number_of, label_number, place_of, with_item, with_reason}
-use Rattle.vocabulary.specs.Verbs.{amount_call, item_call, lone_call, pair_call}
+use Rattle.vocabulary.specs.Words.{amount_call, item_call, lone_call, pair_call}
 use Rattle.doc_tree.specs.Asked.{part, else_reason, is_source, label_in, source_label, amount_item, name_item, object_of, verb_in}
 use Rattle.doc_tree.specs.Asked.{if_label, subject_of, tested_word, sort_of}
 use Rattle.doc_tree.specs.Asked.{scope_after, handlers_in, children_in, kind_in, text_of, key_of, value_of, number_start, signed_start}

@@ -45,8 +45,8 @@ use Rattle.doc_rules.specs.declared.subject.Subject.{Subject}
 use Rattle.doc_rules.specs.declared.subject.Subject.TheVariants.{Reply, Outcome}
 use Rattle.doc_tree.specs.Scope.{Numbers, Scope, Setting, Table, is_listed, kind_named, label_number, named, place_of}
 use Rattle.doc_rules.specs.Subjects.{fits_item, fits_number, fits_word}
-use Rattle.vocabulary.specs.Verbs.{amount_call, has_item, has_number, phrase_verb, verb_of, verb_of_text}
-use Rattle.vocabulary.proofs.Verbs.{HasKind, amount_phrase, item_phrase, lone_phrase, named_has, pair_phrase}
+use Rattle.vocabulary.specs.Words.{amount_call, has_item, has_number, phrase_verb, verb_of, verb_of_text}
+use Rattle.vocabulary.proofs.Words.{HasKind, amount_phrase, item_phrase, lone_phrase, named_has, pair_phrase}
 use Rattle.doc_tree.specs.Asked.{amount_asked, argument_asked, arguments_asked, call_named, index_of, is_source, object_of, source_asked}
 use Rattle.doc_tree.specs.Asked.{source_label, subject_of, target_asked, verb_at, verb_in}
 use Rattle.doc_tree.specs.Spelled.{argument_of, item_template, operation_step, or_zero, pair_template, source_of, target_of, template_of}

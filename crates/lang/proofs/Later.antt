@@ -4,7 +4,7 @@ use Rattle.atoms.specs.declared.item.Item.{Item}
 use Rattle.objects.specs.declared.call.Call.{Call}
 use Rattle.objects.specs.declared.value.Value.{Value}
 use Rattle.objects.specs.Contents.{Content, Number, Signed, Set, Queue, Directory, content_of}
-use Rattle.vocabulary.specs.Verbs.{ItemsAre, phrase_of}
+use Rattle.vocabulary.specs.Words.{ItemsAre, phrase_of}
 use Rattle.vocabulary.specs.declared.verb.Phrase.{Phrase}
 use Rattle.vocabulary.specs.declared.verb.Phrase.TheVariants.{OfAmount, OfItem, OfPair, Alone}
 use Rattle.meaning.specs.declared.template.Argument.{Argument}

@@ -43,8 +43,8 @@ use Rattle.meaning.specs.declared.limits.TheConstants.{MAX_DEPTH}
 use Rattle.doc_tree.specs.Demand.{Demand, holds, in_transaction, one_more_node, one_more_operation}
 use Rattle.doc_tree.specs.Look.{has, or_empty, text_member}
 use Rattle.doc_tree.specs.Scope.{Numbers, Scope, Setting, number_of, with_item, with_label, with_reason}
-use Rattle.vocabulary.specs.Verbs.{ItemsAre, amount_call, item_call, lone_call, pair_call}
-use Rattle.vocabulary.proofs.Verbs.{amount_phrase, item_phrase, lone_phrase, pair_phrase}
+use Rattle.vocabulary.specs.Words.{ItemsAre, amount_call, item_call, lone_call, pair_call}
+use Rattle.vocabulary.proofs.Words.{amount_phrase, item_phrase, lone_phrase, pair_phrase}
 use Rattle.doc_tree.specs.Asked.{abort_asked, abort_shape_asked, amount_item, argument_asked, arguments_asked}
 use Rattle.doc_tree.specs.Asked.{call_named, children_in, handlers_in, has_count, holds_item, holds_number}
 use Rattle.doc_tree.specs.Asked.{holds_word, if_label, if_shape_asked, item_asked, label_asked, label_in}

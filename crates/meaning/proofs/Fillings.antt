@@ -12,8 +12,8 @@ use Rattle.atoms.specs.declared.item_set.SetCall.TheVariants as set
 use Rattle.atoms.specs.declared.queue.QueueCall.TheVariants as queue
 use Rattle.atoms.specs.declared.directory.DirectoryCall.TheVariants as directory
 use Rattle.atoms.specs.declared.max_register.MaxCall.TheVariants as max
-use Rattle.vocabulary.proofs.Verbs.{amount_phrase, item_phrase, pair_phrase}
-use Rattle.vocabulary.specs.Verbs.{amount_call, item_call, pair_call, phrase_verb, verb_of}
+use Rattle.vocabulary.proofs.Words.{amount_phrase, item_phrase, pair_phrase}
+use Rattle.vocabulary.specs.Words.{amount_call, item_call, pair_call, phrase_verb, verb_of}
 use Rattle.vocabulary.specs.declared.verb.AmountVerb.{AmountVerb}
 use Rattle.vocabulary.specs.declared.verb.AmountVerb.TheVariants.{Deposit, Withdraw, Add, Sub, Raise}
 use Rattle.vocabulary.specs.declared.verb.ItemVerb.{ItemVerb}

@@ -13,7 +13,7 @@ use Rattle.meaning.specs.declared.template.Argument.{Argument}
 use Rattle.meaning.specs.declared.template.Argument.TheVariants as argument
 use Rattle.meaning.specs.declared.template.Template.{Template}
 use Rattle.meaning.specs.declared.template.Template.TheVariants.{Given, OfAmount, OfItem, OfPair}
-use Rattle.vocabulary.specs.Verbs.{has_item, has_number, verb_of}
+use Rattle.vocabulary.specs.Words.{has_item, has_number, verb_of}
 use Rattle.meaning.specs.declared.held.Held.{Held}
 use Rattle.meaning.specs.Records.{Taken, TakenChild, TakenHandler, TakenChildren}
 use Rattle.meaning.specs.OneThread.{Execution, Ran, outcome_of, labels_of, label_if, operate, operate_made, operate_filled, choose, act}

@@ -5,9 +5,7 @@ use Rattle.atoms.specs.declared.amount.Amount.{Amount}
 use Rattle.atoms.specs.declared.item.Item.{Item}
 use Rattle.objects.specs.declared.call.Call.{Call}
 use Rattle.objects.specs.declared.call.Reply.{Reply}
-use Rattle.vocabulary.specs.Responses.{response_of, response_word}
-use Rattle.vocabulary.specs.Words.{refuses}
-use Rattle.vocabulary.specs.Verbs.{amount_call, item_call, pair_call, verb_of}
+use Rattle.vocabulary.specs.Words.{amount_call, item_call, pair_call, refuses, response_of, response_word, verb_of}
 use Rattle.vocabulary.specs.declared.verb.PairVerb.{PairVerb}
 use Rattle.vocabulary.specs.declared.verb.Verb.{Verb}
 use Rattle.vocabulary.specs.declared.verb.Verb.TheVariants as verb

@@ -12,7 +12,7 @@ use Rattle.meaning.specs.declared.test.Test.TheVariants.{Is, AtLeast, IsItem}
 use Rattle.vocabulary.specs.declared.word.Word.{Word}
 use Rattle.vocabulary.specs.declared.word.Word.TheVariants as word
 use Rattle.vocabulary.specs.contracts.word.WordPartialEq.TheImpl as words
-use Rattle.vocabulary.specs.Responses.{response_item, response_number, response_of, response_word}
+use Rattle.vocabulary.specs.Words.{response_item, response_number, response_of, response_word}
 
 abbrev pub is_outcome : Word → End → Bool
 is_outcome word.Committed Ended = true

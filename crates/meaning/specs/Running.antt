@@ -5,7 +5,7 @@ use Rattle.objects.specs.declared.value.Value.{Value}
 use Rattle.objects.specs.declared.kind.Kind.{Kind}
 use Rattle.objects.specs.declared.call.Reply.{Reply}
 use Rattle.objects.specs.declared.call.Call.{Call}
-use Rattle.vocabulary.specs.Verbs.{has_item, has_number, verb_of}
+use Rattle.vocabulary.specs.Words.{has_item, has_number, verb_of}
 use Rattle.vocabulary.specs.declared.verb.Verb.{Verb}
 use Rattle.meaning.specs.declared.template.Argument.{Argument}
 use Rattle.meaning.specs.declared.template.Argument.TheVariants as argument

@@ -10,12 +10,10 @@ use Rattle.objects.specs.declared.call.Call.{Call}
 use Rattle.objects.specs.declared.call.Reply.{Reply}
 use Rattle.objects.specs.declared.value.Value.{Value}
 use Rattle.objects.specs.Contents.{Content, Number, Signed, Set, Queue, Directory, content_of}
-use Rattle.vocabulary.specs.Verbs.{phrase_of, verb_text}
-use Rattle.vocabulary.specs.Words.{word_text}
+use Rattle.vocabulary.specs.Words.{phrase_of, response_of, verb_text, word_text}
 use Rattle.vocabulary.specs.declared.verb.Phrase.{Phrase}
 use Rattle.vocabulary.specs.declared.verb.Phrase.TheVariants as phrase
 use Rattle.vocabulary.specs.declared.verb.Verb.TheVariants.{OfAmount, OfItem, OfPair, Alone}
-use Rattle.vocabulary.specs.Responses.{response_of}
 use Rattle.vocabulary.specs.declared.response.Response.{Response}
 use Rattle.vocabulary.specs.declared.response.Response.TheVariants as response
 

@@ -2,7 +2,7 @@
 ghost use Rattle.std.specs.Prelude.{◌≡◌, ◌++◌, ◌<◌, OnOk, codes, string_bytes};
 ghost use Rattle.std.specs.Fmt.{decimal, signed_decimal};
 ghost use Rattle.meaning.specs.Words.{call_text, reply_text, response_text};
-ghost use Rattle.vocabulary.specs.Verbs.{verb_text};
+ghost use Rattle.vocabulary.specs.Words.{verb_text};
 ghost use Rattle.batch.specs.Names.{names_of};
 
 use crate::names::item_name;

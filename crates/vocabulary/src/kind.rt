@@ -1,6 +1,6 @@
 //! The words of kinds.
 ghost use Rattle.std.specs.Prelude.{◌≡◌};
-ghost use Rattle.vocabulary.specs.Words.{is_kind_text, kind_of_text, kind_since, kind_text};
+ghost use Rattle.vocabulary.specs.Words.{a_kind, is_kind_text, kind_of_text, kind_since, kind_text};
 
 use objects::Kind;
 
@@ -25,6 +25,20 @@ pub fn kind_text(kind: Kind) -> &'static str
         Kind::Queue => "queue",
         Kind::Directory => "directory",
         Kind::Max => "max",
+    }
+}
+
+/// An object of a kind: the kind with its article.
+pub fn a_kind(kind: Kind) -> &'static str
+    ensures { result.now ≡ a_kind kind }
+{
+    match kind {
+        Kind::Account => "an account",
+        Kind::Counter => "a counter",
+        Kind::Set => "a set",
+        Kind::Queue => "a queue",
+        Kind::Directory => "a directory",
+        Kind::Max => "a maximum register",
     }
 }
 

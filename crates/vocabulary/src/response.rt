@@ -1,6 +1,6 @@
 //! Replies as they are said.
 ghost use Rattle.std.specs.Prelude.{◌≡◌};
-ghost use Rattle.vocabulary.specs.Responses.{response_item, response_of, response_word};
+ghost use Rattle.vocabulary.specs.Words.{response_item, response_of, response_word};
 
 use crate::Word;
 use atoms::{AccountReply, CounterReply, DirectoryReply, Item, MaxReply, QueueReply, SetReply};

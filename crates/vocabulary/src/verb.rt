@@ -1,6 +1,6 @@
 //! Verbs, and calls as they are said: a verb and its arguments.
 ghost use Rattle.std.specs.Prelude.{◌≡◌};
-ghost use Rattle.vocabulary.specs.Verbs.{amount_call, has_item, has_number, has_word, is_verb_text, item_call, lone_call, pair_call, phrase_of, verb_of_text, verb_since, verb_text, verbs_of};
+ghost use Rattle.vocabulary.specs.Words.{amount_call, has_item, has_number, has_word, is_verb_text, item_call, lone_call, pair_call, phrase_of, verb_of_text, verb_since, verb_text, verbs_of};
 
 use crate::word::Word;
 use atoms::{AccountCall, Amount, CounterCall, DirectoryCall, Item, MaxCall, QueueCall, SetCall};
@@ -151,7 +151,7 @@ impl Verb {
     }
 
     /// The verb of a kind that a word names in a document of a version.
-    #[tactic(auto, unfolding(crate::specs::Verbs::verb_of_text))]
+    #[tactic(auto, unfolding(crate::specs::Words::verb_of_text))]
     pub fn of_text(version: u8, kind: Kind, text: &str) -> Option<Verb>
         ensures { result ≡ verb_of_text version kind text.now }
     {

@@ -1,5 +1,6 @@
 -- Verbs and their calls: a call is said with its verb, a kind's verbs have its calls, and a call adds no items but those it is said with.
-use Rattle.std.proofs.Common.{◌≡◌, ℕ, suc, inl, inr, Bool, true, false, not, cond, List, [], ◌∷◌, Some, None, refl, sym, subst, ◌∙◌}
+-- And which replies have an item.
+use Rattle.std.proofs.Common.{◌≡◌, ℕ, suc, ◌⊎◌, inl, inr, Bool, true, false, not, cond, List, [], ◌∷◌, Some, None, refl, sym, subst, ◌∙◌}
 use Rattle.std.proofs.Common.{arith}
 use Rattle.std.specs.Prelude.{is_some, ⊤}
 use Rattle.std.specs.Ordering.{eq_by_cmp}
@@ -19,13 +20,22 @@ use Rattle.atoms.specs.declared.queue.QueueCall.{QueueCall}
 use Rattle.atoms.specs.declared.queue.QueueCall.TheVariants as queue
 use Rattle.atoms.specs.declared.directory.DirectoryCall.{DirectoryCall}
 use Rattle.atoms.specs.declared.directory.DirectoryCall.TheVariants as directory
+use Rattle.atoms.specs.declared.account.AccountReply.TheVariants as account_reply
+use Rattle.atoms.specs.declared.counter.CounterReply.TheVariants as counter_reply
+use Rattle.atoms.specs.declared.item_set.SetReply.TheVariants as set_reply
+use Rattle.atoms.specs.declared.queue.QueueReply.TheVariants as queue_reply
+use Rattle.atoms.specs.declared.directory.DirectoryReply.TheVariants as directory_reply
+use Rattle.atoms.specs.declared.max_register.MaxReply.TheVariants as max_reply
 use Rattle.atoms.proofs.Items.{alike_is, items_total}
 use Rattle.atoms.specs.declared.amount.Amount.{Amount}
 use Rattle.objects.specs.Objects.{kind_of_call}
 use Rattle.objects.specs.declared.call.Call.TheVariants as call
+use Rattle.objects.specs.declared.call.Reply.{Reply}
+use Rattle.objects.specs.declared.call.Reply.TheVariants as reply
 use Rattle.objects.specs.declared.kind.Kind.{Kind}
 use Rattle.objects.specs.declared.kind.Kind.TheVariants as kind
-use Rattle.vocabulary.specs.Verbs.{ItemsAre, amount_call, item_call, lone_call, pair_call, phrase_of, verb_of_text, verbs_of}
+use Rattle.vocabulary.specs.Words.{ItemsAre, amount_call, item_call, lone_call, pair_call, phrase_of, response_item, response_of}
+use Rattle.vocabulary.specs.Words.{verb_of_text, verbs_of}
 use Rattle.vocabulary.specs.declared.verb.AmountVerb.{AmountVerb}
 use Rattle.vocabulary.specs.declared.verb.AmountVerb.TheVariants.{Deposit, Withdraw, Add, Sub, Raise}
 use Rattle.vocabulary.specs.declared.verb.ItemVerb.{ItemVerb}
@@ -37,6 +47,8 @@ use Rattle.vocabulary.specs.declared.verb.LoneVerb.TheVariants.{Balance, Read, S
 use Rattle.vocabulary.specs.declared.verb.Verb.{Verb}
 use Rattle.vocabulary.specs.declared.verb.Verb.TheVariants.{OfAmount, OfItem, OfPair, Alone}
 use Rattle.vocabulary.specs.declared.verb.Phrase.TheVariants as phrase
+
+-- ---- verbs
 
 -- the call of an amount is said as it was made
 pub amount_phrase : (v : AmountVerb) (a : Amount) → phrase_of (amount_call v a) ≡ phrase.OfAmount v a
@@ -99,7 +111,7 @@ pub named_has : (version : ℕ) (k : Kind) (s : List ℕ) (v : Verb) → verb_of
 unfolding verb_of_text
 named_has version k s v e = found_has k _ (verbs_of k) v (verbs_have k) e
 
--- ---- items
+-- ---- the items of a value
 
 -- A value after a call has no items but those before and those that the call is said with.
 module _ (P : Item → Type 0) where
@@ -146,3 +158,16 @@ module _ (P : Item → Type 0) where
       by q x true bound = cc
       by q x false bound = had q x bound
   directory_items d (directory.Lookup k) had said = had
+
+-- ---- replies
+
+-- only what a dequeue got and what a lookup found is a reply with an item
+pub item_reply : (r : Reply) (x : Item) → response_item (response_of r) ≡ Some x
+    → (r ≡ reply.Queue (queue_reply.Got x)) ⊎ (r ≡ reply.Directory (directory_reply.Found x))
+item_reply (reply.Queue (queue_reply.Got y)) x is = inl cc
+item_reply (reply.Directory (directory_reply.Found y)) x is = inr cc
+item_reply (reply.Account account_reply.Ok) x is = absurd cc
+item_reply (reply.Counter counter_reply.Ok) x is = absurd cc
+item_reply (reply.Set set_reply.No) x is = absurd cc
+item_reply (reply.Max max_reply.Ok) x is = absurd cc
+item_reply r x is = absurd cc
