@@ -51,7 +51,7 @@ use Rattle.meaning.specs.OneThread.{choose_handler, act}
 use Rattle.meaning.specs.OneThread.{go_on, go_on_children, one, one_step}
 use Rattle.meaning.specs.OneThread.{one_handler, one_children}
 use Rattle.meaning.specs.Batch.{block_at, settled, state_at}
-use Rattle.meaning.proofs.Misfits.{after_call_rest}
+use Rattle.meaning.proofs.Keeping.{after_call_rest}
 use Rattle.batch.specs.Named.{AllNamed, AllNamedValues, AreNamed, AreNamedHandlers, HasText, IsNamed, IsNamedArgument, IsNamedCall}
 use Rattle.batch.specs.Named.{IsNamedStep, IsNamedTemplate, IsNamedValue}
 use Rattle.batch.specs.Names.{Texts}

@@ -10,13 +10,11 @@ use Rattle.std.proofs.lemmas.Option.{slice_get_within}
 use Rattle.std.proofs.lemmas.List.{length-map}
 use Rattle.serde_json.specs.Data.{Data}
 use Rattle.objects.specs.declared.kind.Kind.{Kind}
-use Rattle.objects.specs.Objects.{kind_of_call}
 use Rattle.meaning.specs.declared.test.Test.{Test}
 use Rattle.meaning.specs.declared.test.Test.TheVariants.{Is, AtLeast, IsItem}
 use Rattle.meaning.specs.WellFormed.{Label, OfVerb, OfSubaction, CallFits, VerbFits, ArgumentFits, ArgumentsFit, IsSeenWith}
 use Rattle.meaning.specs.WellFormed.{IsWellFormedStep}
-use Rattle.meaning.specs.WellFormed.{added_by, added_if, kind_of_verb, label_has, operations_of_step, test_fits}
-use Rattle.meaning.specs.Amounts.{amount_of}
+use Rattle.meaning.specs.WellFormed.{added_by, added_if, label_has, operations_of_step, test_fits}
 use Rattle.meaning.specs.Filling.{template_verb}
 use Rattle.meaning.specs.declared.template.Argument.{Argument}
 use Rattle.meaning.specs.declared.template.Argument.TheVariants as argument
@@ -45,8 +43,8 @@ use Rattle.doc_rules.specs.declared.subject.Subject.{Subject}
 use Rattle.doc_rules.specs.declared.subject.Subject.TheVariants.{Reply, Outcome}
 use Rattle.doc_tree.specs.Scope.{Numbers, Scope, Setting, Table, is_listed, kind_named, label_number, named, place_of}
 use Rattle.doc_rules.specs.Subjects.{fits_item, fits_number, fits_word}
-use Rattle.vocabulary.specs.Words.{amount_call, has_item, has_number, phrase_verb, verb_of, verb_of_text}
-use Rattle.vocabulary.proofs.Words.{HasKind, amount_phrase, item_phrase, lone_phrase, named_has, pair_phrase}
+use Rattle.vocabulary.specs.Words.{HasKind, amount_call, has_item, has_number, phrase_verb, verb_of, verb_of_text}
+use Rattle.vocabulary.proofs.Words.{amount_phrase, item_phrase, lone_phrase, named_has, pair_phrase}
 use Rattle.doc_tree.specs.Asked.{amount_asked, argument_asked, arguments_asked, call_named, index_of, is_source, object_of, source_asked}
 use Rattle.doc_tree.specs.Asked.{source_label, subject_of, target_asked, verb_at, verb_in}
 use Rattle.doc_tree.specs.Spelled.{argument_of, item_template, operation_step, or_zero, pair_template, source_of, target_of, template_of}
@@ -111,18 +109,7 @@ verb_is version scope (Alone v) numbers op = ap phrase_verb (lone_phrase v)
 given_fits : (ks : List Kind) (object : ℕ) (c : Call) → VerbFits ks object (verb_of c) → CallFits ks object c
 given_fits ks object c fits = (filled_law [] (template.Given c) c refl).1 ks object fits
 
--- the kind of a verb whose calls are of a kind
-kind_is : (k : Kind) (c : Call) (v : Verb) → verb_of c ≡ v → kind_of_call c ≡ k → kind_of_verb v ≡ k
-kind_is k c v is kind =
-    let same : kind_of_verb (verb_of c) ≡ kind_of_call c = let one = given_fits (kind_of_verb (verb_of c) ∷ []) 0 c refl in cc in
-    ap kind_of_verb (sym is) ∙ same ∙ kind
-
-verb_kind : (k : Kind) (v : Verb) → HasKind k v → kind_of_verb v ≡ k
-verb_kind k (OfAmount v) has = kind_is k _ _ (ap phrase_verb (amount_phrase v (amount_of 1))) (has (amount_of 1))
-verb_kind k (OfItem v) has = let x : Item = record { 0 = 0 } in kind_is k _ _ (ap phrase_verb (item_phrase v x)) (has x)
-verb_kind k (OfPair v) has = let x : Item = record { 0 = 0 } in kind_is k _ _ (ap phrase_verb (pair_phrase v x x)) (has x x)
-verb_kind k (Alone v) has = kind_is k _ _ (ap phrase_verb (lone_phrase v)) has
-
+-- the verb that an operation names fits the object that it names
 pub verb_fits : (setting : Setting) (op : Data) → length setting.names ≡ length setting.kinds
     → AllMet (target_asked setting (object_of op) (call_named op))
     → VerbFits setting.kinds (target_of setting (object_of op)) (verb_in setting op)
@@ -139,7 +126,7 @@ verb_fits setting op paired met =
     let is_verb : verb_in setting op ≡ v.0 = ap (λ o. unwrap_or o (Alone Balance)) v.1 in
     let target : target_of setting object ≡ i = ap or_zero place in
     rw (target, is_verb)
-    (k.1 ∙ ap (λ x. Some x) (sym (verb_kind k.0 v.0 (named_has setting.version k.0 (call_named op) v.0 at_kind))))
+    (subst (λ o. IsSomeAnd o (λ x. HasKind x v.0)) (sym k.1) (named_has setting.version k.0 (call_named op) v.0 at_kind))
 
 -- the step fits where its verb and its arguments do
 pub step_fits : (ks : List Kind) (object : ℕ) (t : Template) (labelled : Bool) (refusal : Refusal) (labels : List Label)

@@ -1,18 +1,16 @@
--- What a run keeps: the kinds of the objects, and a bound on their numbers.
+-- What a run keeps: the kinds of the objects, a bound on their numbers, and that a call doesn't fit an object.
 use Rattle.std.proofs.Common.{◌≡◌, ℕ, zero, suc, ◌+◌, ◌≤◌, ◌<◌, ◌^◌, List, [], ◌∷◌, ◌++◌, length, take, Bool, true, false}
 use Rattle.std.proofs.Common.{Option, Some, None, refl, sym, ap, ◌∙◌, subst, arith}
-use Rattle.std.specs.Prelude.{slice_index_or}
-use Rattle.atoms.proofs.AccountLemmas.{account_grows, account_has_room}
-use Rattle.atoms.proofs.CounterLemmas.{counter_grows, counter_has_room}
-use Rattle.atoms.proofs.MaxRegisterLemmas.{register_grows}
-use Rattle.objects.specs.Objects.{kind_of_value, value_after, Fits, ObjectHasRoom, HasRoom as ValueHasRoom}
+use Rattle.std.specs.Prelude.{slice_get, slice_index_or}
+use Rattle.serial.specs.Places.{after_found}
+use Rattle.objects.specs.Objects.{kind_of_value, one_value, value_reply as reply_of, value_after, Fits, ObjectHasRoom}
+use Rattle.objects.specs.Objects.{HasRoom as ValueHasRoom}
 use Rattle.objects.specs.declared.value.Value.{Value}
-use Rattle.objects.specs.declared.value.Value.TheVariants.{Account, Counter, Set, Queue, Directory, Max}
 use Rattle.objects.specs.declared.call.Call.{Call}
-use Rattle.objects.specs.declared.call.Call.TheVariants as to
 use Rattle.objects.specs.declared.call.Reply.{Reply}
+use Rattle.objects.specs.declared.entry.Entry.{Entry}
 use Rattle.meaning.specs.declared.end.End.TheVariants.{Ended, Aborted}
-use Rattle.objects.specs.Entries.{State, kinds, reply_at, after_call}
+use Rattle.objects.specs.Entries.{State, kinds, reply_at, after, after_call}
 use Rattle.meaning.specs.Trees.{Block, NoStep, Steps, Operation, Fill, If, Subaction, Abort, Parallel, ForReason, Otherwise, GoOn, Pass}
 use Rattle.meaning.specs.Trees.{NoChild}
 use Rattle.meaning.specs.Trees.{Child}
@@ -29,27 +27,24 @@ use Rattle.meaning.specs.Batch.{settled, block_at, state_at}
 use Rattle.meaning.specs.WellFormed.{CallFits, operations, size_of, largest, largest_amount, StateHasRoom}
 use Rattle.meaning.specs.Running.{KeepsKinds, PerformLaw, LimitLaw, CallKeepsLaw, BlockKeepsLaw, StepKeepsLaw, HandlersKeepLaw}
 use Rattle.meaning.specs.Running.{ChildrenKeepLaw, EntriesKeepLaw, all_operations, BatchKeepsLaw}
-use Rattle.meaning.proofs.Misfits.{after_call_rest}
 
 -- ---- one call
 
 value_grows : (v : Value) (c : Call) → size_of (value_after v c) ≤ size_of v + largest_amount
-value_grows (Account v) (to.Account c) = account_grows v c
-value_grows (Counter v) (to.Counter c) = counter_grows v c
-value_grows (Set v) (to.Set c) = omega arith
-value_grows (Queue v) (to.Queue c) = omega arith
-value_grows (Directory v) (to.Directory c) = omega arith
-value_grows (Max v) (to.Max c) = register_grows v c
-value_grows v c = omega arith
+value_grows v c = grind arith
 
 same_kind : (v : Value) (c : Call) → kind_of_value (value_after v c) ≡ kind_of_value v
-same_kind (Account v) (to.Account c) = refl
-same_kind (Counter v) (to.Counter c) = refl
-same_kind (Set v) (to.Set c) = refl
-same_kind (Queue v) (to.Queue c) = refl
-same_kind (Directory v) (to.Directory c) = refl
-same_kind (Max v) (to.Max c) = refl
-same_kind v c = refl
+same_kind v c = grind arith
+
+-- the first object is left as it is by a call on a later one
+set_within_rest : (value : Value) (values : State) (object : ℕ) (found : Option Value) (call : Call)
+    → after_found one_value (value ∷ values) (suc object) call found ≡ value ∷ after_found one_value values object call found
+set_within_rest value values object None call = refl
+set_within_rest value values object (Some v) call = refl
+
+pub after_call_rest : (value : Value) (values : State) (object : ℕ) (call : Call) → after_call (value ∷ values) (suc object) call ≡ value
+    ∷ after_call values object call
+after_call_rest value values object call = set_within_rest value values object (slice_get values object) call
 
 kinds_after : (state : State) (object : ℕ) (call : Call) → kinds (after_call state object call) ≡ kinds state
 kinds_after [] object call = refl
@@ -75,9 +70,7 @@ call_fits (v ∷ vs) zero call fits = cc
 call_fits (v ∷ vs) (suc object) call fits = call_fits vs object call fits
 
 value_has_room : (v : Value) (c : Call) → size_of v + largest_amount < 2 ^ 63 → ValueHasRoom v c
-value_has_room (Account v) (to.Account c) room = account_has_room v c room
-value_has_room (Counter v) (to.Counter c) room = counter_has_room v c room
-value_has_room v c room = tt
+value_has_room v c room = grind arith
 
 call_has_room : (state : State) (object : ℕ) (call : Call) → StateHasRoom state 1 → ObjectHasRoom state object call
 call_has_room [] object call room = tt
@@ -89,6 +82,27 @@ perform state object call fits room = record { fits = call_fits state object cal
 
 pub limit : LimitLaw
 limit state done left most all = omega arith
+
+-- ---- a call that doesn't fit
+
+misfit_after_value : (value : Value) (done call : Call) → reply_of value call ≡ None → reply_of (value_after value done) call ≡ None
+misfit_after_value value done call misfit = grind arith
+
+misfit_after_call : (state : State) (other : ℕ) (done : Call) (object : ℕ) (call : Call) → reply_at state object call ≡ None
+    → reply_at (after_call state other done) object call ≡ None
+misfit_after_call [] other done object call misfit = misfit
+misfit_after_call (v ∷ vs) zero done zero call misfit = misfit_after_value v done call misfit
+misfit_after_call (v ∷ vs) zero done (suc object) call misfit = misfit
+misfit_after_call (v ∷ vs) (suc other) done zero call misfit = ap (λ state. reply_at state zero call) (after_call_rest v vs other done)
+    ∙ misfit
+misfit_after_call (v ∷ vs) (suc other) done (suc object) call misfit = ap (λ state. reply_at state (suc object) call)
+    (after_call_rest v vs other done) ∙ misfit_after_call vs other done object call misfit
+
+pub misfit_after : (state : State) (committed : List Entry) (object : ℕ) (call : Call) → reply_at state object call ≡ None
+    → reply_at (after state committed) object call ≡ None
+misfit_after state [] object call misfit = misfit
+misfit_after state (p ∷ ps) object call misfit = misfit_after (after_call state p.object p.call) ps object call
+    (misfit_after_call state p.object p.call object call misfit)
 
 -- ---- a run
 

@@ -21,7 +21,7 @@ use Rattle.meaning.specs.OneThread.{choose_handler, after_abort, act, as_step, b
 use Rattle.meaning.specs.OneThread.{one_step, one_handler, one_children}
 use Rattle.meaning.specs.Laws.{ShiftLaw, ChildrenShiftLaw, carried}
 use Rattle.meaning.proofs.Lifting.{Passes, past, commute_left, commute_right}
-use Rattle.meaning.proofs.Misfits.{misfit_after}
+use Rattle.meaning.proofs.Keeping.{misfit_after}
 
 module _ (committed : List Entry) where
   -- the second run is the first one, made on the state after the list

@@ -1,7 +1,7 @@
 -- Verbs and their calls: a call is said with its verb, a kind's verbs have its calls, and a call adds no items but those it is said with.
 -- And which replies have an item.
-use Rattle.std.proofs.Common.{◌≡◌, ℕ, suc, ◌⊎◌, inl, inr, Bool, true, false, not, cond, List, [], ◌∷◌, Some, None, refl, sym, subst, ◌∙◌}
-use Rattle.std.proofs.Common.{arith}
+use Rattle.std.proofs.Common.{◌≡◌, ℕ, suc, ◌⊎◌, inl, inr, Bool, true, false, not, cond, List, [], ◌∷◌, Some, None, refl, sym, ap, subst}
+use Rattle.std.proofs.Common.{◌∙◌, arith}
 use Rattle.std.specs.Prelude.{is_some, ⊤}
 use Rattle.std.specs.Ordering.{eq_by_cmp}
 use Rattle.std.proofs.lemmas.Bool.{and_parts, or_cases}
@@ -20,82 +20,68 @@ use Rattle.atoms.specs.declared.queue.QueueCall.{QueueCall}
 use Rattle.atoms.specs.declared.queue.QueueCall.TheVariants as queue
 use Rattle.atoms.specs.declared.directory.DirectoryCall.{DirectoryCall}
 use Rattle.atoms.specs.declared.directory.DirectoryCall.TheVariants as directory
-use Rattle.atoms.specs.declared.account.AccountReply.TheVariants as account_reply
-use Rattle.atoms.specs.declared.counter.CounterReply.TheVariants as counter_reply
-use Rattle.atoms.specs.declared.item_set.SetReply.TheVariants as set_reply
 use Rattle.atoms.specs.declared.queue.QueueReply.TheVariants as queue_reply
 use Rattle.atoms.specs.declared.directory.DirectoryReply.TheVariants as directory_reply
-use Rattle.atoms.specs.declared.max_register.MaxReply.TheVariants as max_reply
 use Rattle.atoms.proofs.Items.{alike_is, items_total}
 use Rattle.atoms.specs.declared.amount.Amount.{Amount}
 use Rattle.objects.specs.Objects.{kind_of_call}
+use Rattle.objects.specs.declared.call.Call.{Call}
 use Rattle.objects.specs.declared.call.Call.TheVariants as call
 use Rattle.objects.specs.declared.call.Reply.{Reply}
 use Rattle.objects.specs.declared.call.Reply.TheVariants as reply
 use Rattle.objects.specs.declared.kind.Kind.{Kind}
-use Rattle.objects.specs.declared.kind.Kind.TheVariants as kind
-use Rattle.vocabulary.specs.Words.{ItemsAre, amount_call, item_call, lone_call, pair_call, phrase_of, response_item, response_of}
-use Rattle.vocabulary.specs.Words.{verb_of_text, verbs_of}
+use Rattle.vocabulary.specs.Words.{HasKind, ItemsAre, amount_call, item_call, lone_call, pair_call, phrase_of, response_item, response_of}
+use Rattle.vocabulary.specs.Words.{phrase_verb, verb_of, verb_of_text, verbs_of}
 use Rattle.vocabulary.specs.declared.verb.AmountVerb.{AmountVerb}
-use Rattle.vocabulary.specs.declared.verb.AmountVerb.TheVariants.{Deposit, Withdraw, Add, Sub, Raise}
 use Rattle.vocabulary.specs.declared.verb.ItemVerb.{ItemVerb}
-use Rattle.vocabulary.specs.declared.verb.ItemVerb.TheVariants.{Insert, Remove, Has, Enq, Unbind, Lookup}
 use Rattle.vocabulary.specs.declared.verb.PairVerb.{PairVerb}
-use Rattle.vocabulary.specs.declared.verb.PairVerb.TheVariants.{Bind, Put}
 use Rattle.vocabulary.specs.declared.verb.LoneVerb.{LoneVerb}
-use Rattle.vocabulary.specs.declared.verb.LoneVerb.TheVariants.{Balance, Read, Size, Deq, Length, Top}
 use Rattle.vocabulary.specs.declared.verb.Verb.{Verb}
-use Rattle.vocabulary.specs.declared.verb.Verb.TheVariants.{OfAmount, OfItem, OfPair, Alone}
+use Rattle.vocabulary.specs.declared.verb.Phrase.{Phrase}
 use Rattle.vocabulary.specs.declared.verb.Phrase.TheVariants as phrase
 
 -- ---- verbs
 
 -- the call of an amount is said as it was made
 pub amount_phrase : (v : AmountVerb) (a : Amount) → phrase_of (amount_call v a) ≡ phrase.OfAmount v a
-amount_phrase Deposit a = refl
-amount_phrase Withdraw a = refl
-amount_phrase Add a = refl
-amount_phrase Sub a = refl
-amount_phrase Raise a = refl
+amount_phrase v a = grind arith
 
 pub item_phrase : (v : ItemVerb) (x : Item) → phrase_of (item_call v x) ≡ phrase.OfItem v x
-item_phrase Insert x = refl
-item_phrase Remove x = refl
-item_phrase Has x = refl
-item_phrase Enq x = refl
-item_phrase Unbind x = refl
-item_phrase Lookup x = refl
+item_phrase v x = grind arith
 
 pub pair_phrase : (v : PairVerb) (k x : Item) → phrase_of (pair_call v k x) ≡ phrase.OfPair v k x
-pair_phrase Bind k x = refl
-pair_phrase Put k x = refl
+pair_phrase v k x = grind arith
 
 pub lone_phrase : (v : LoneVerb) → phrase_of (lone_call v) ≡ phrase.Alone v
-lone_phrase Balance = refl
-lone_phrase Read = refl
-lone_phrase Size = refl
-lone_phrase Deq = refl
-lone_phrase Length = refl
-lone_phrase Top = refl
+lone_phrase v = grind arith
 
--- each call of the verb is of the kind
-abbrev pub HasKind : Kind → Verb → Type 0
-HasKind k (OfAmount v) = (a : Amount) → kind_of_call (amount_call v a) ≡ k
-HasKind k (OfItem v) = (x : Item) → kind_of_call (item_call v x) ≡ k
-HasKind k (OfPair v) = (key x : Item) → kind_of_call (pair_call v key x) ≡ k
-HasKind k (Alone v) = kind_of_call (lone_call v) ≡ k
+-- the call that a phrase says
+abbrev call_said : Phrase → Call
+call_said (phrase.OfAmount v a) = amount_call v a
+call_said (phrase.OfItem v x) = item_call v x
+call_said (phrase.OfPair v k x) = pair_call v k x
+call_said (phrase.Alone v) = lone_call v
 
+said_again : (c : Call) → call_said (phrase_of c) ≡ c
+said_again c = grind arith
+
+said_has : (p : Phrase) (k : Kind) → HasKind k (phrase_verb p) → kind_of_call (call_said p) ≡ k
+said_has (phrase.OfAmount v a) k has = has a
+said_has (phrase.OfItem v x) k has = has x
+said_has (phrase.OfPair v key x) k has = has key x
+said_has (phrase.Alone v) k has = has
+
+-- a call is of the kind that its verb has
+pub call_has : (c : Call) (k : Kind) → HasKind k (verb_of c) → kind_of_call c ≡ k
+call_has c k has = ap kind_of_call (sym (said_again c)) ∙ said_has (phrase_of c) k has
+
+-- each of the verbs has calls of the kind
 abbrev HaveKind : Kind → List Verb → Type 0
 HaveKind k [] = ⊤
 HaveKind k (v ∷ vs) = HasKind k v × HaveKind k vs
 
 verbs_have : (k : Kind) → HaveKind k (verbs_of k)
-verbs_have kind.Account = ((λ a. refl), ((λ a. refl), (refl, tt)))
-verbs_have kind.Counter = ((λ a. refl), ((λ a. refl), (refl, tt)))
-verbs_have kind.Set = ((λ x. refl), ((λ x. refl), ((λ x. refl), (refl, tt))))
-verbs_have kind.Queue = ((λ x. refl), (refl, (refl, tt)))
-verbs_have kind.Directory = ((λ k x. refl), ((λ k x. refl), ((λ x. refl), ((λ x. refl), tt))))
-verbs_have kind.Max = ((λ a. refl), (refl, tt))
+verbs_have k = grind arith
 
 -- so has the verb that is found among them
 found_has : (k : Kind) (test : Verb → Bool) (vs : List Verb) (v : Verb) → HaveKind k vs → find test vs ≡ Some v → HasKind k v
@@ -164,10 +150,4 @@ module _ (P : Item → Type 0) where
 -- only what a dequeue got and what a lookup found is a reply with an item
 pub item_reply : (r : Reply) (x : Item) → response_item (response_of r) ≡ Some x
     → (r ≡ reply.Queue (queue_reply.Got x)) ⊎ (r ≡ reply.Directory (directory_reply.Found x))
-item_reply (reply.Queue (queue_reply.Got y)) x is = inl cc
-item_reply (reply.Directory (directory_reply.Found y)) x is = inr cc
-item_reply (reply.Account account_reply.Ok) x is = absurd cc
-item_reply (reply.Counter counter_reply.Ok) x is = absurd cc
-item_reply (reply.Set set_reply.No) x is = absurd cc
-item_reply (reply.Max max_reply.Ok) x is = absurd cc
-item_reply r x is = absurd cc
+item_reply r x is = grind arith

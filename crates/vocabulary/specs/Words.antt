@@ -1,5 +1,5 @@
 -- The words of the language: of kinds, of replies and outcomes, of verbs and their calls; and replies as they are said.
-use Rattle.std.specs.Prelude.{ℕ, ℤ, pos, Bool, true, false, List, [], ◌∷◌, codes, Option, Some, None, nat_le, ◌&&◌, ⊤}
+use Rattle.std.specs.Prelude.{◌≡◌, ℕ, ℤ, pos, Bool, true, false, List, [], ◌∷◌, codes, Option, Some, None, nat_le, ◌&&◌, ⊤}
 use Rattle.std.specs.List.{find}
 use Rattle.std.specs.Str.{bytes_eq}
 use Rattle.atoms.specs.declared.item.Item.{Item}
@@ -16,6 +16,7 @@ use Rattle.atoms.specs.declared.directory.DirectoryCall.TheVariants as directory
 use Rattle.atoms.specs.declared.directory.DirectoryReply.TheVariants as directory_reply
 use Rattle.atoms.specs.declared.max_register.MaxCall.TheVariants as max
 use Rattle.atoms.specs.declared.max_register.MaxReply.TheVariants as max_reply
+use Rattle.objects.specs.Objects.{kind_of_call}
 use Rattle.objects.specs.declared.kind.Kind.{Kind}
 use Rattle.objects.specs.declared.kind.Kind.TheVariants as kind
 use Rattle.objects.specs.declared.call.Call.{Call}
@@ -186,6 +187,13 @@ lone_call Size = call.Set set.Size
 lone_call Deq = call.Queue queue.Deq
 lone_call Length = call.Queue queue.Length
 lone_call Top = call.Max max.Top
+
+-- each call of the verb is of the kind
+abbrev pub HasKind : Kind → Verb → Type 0
+HasKind k (OfAmount v) = (a : Amount) → kind_of_call (amount_call v a) ≡ k
+HasKind k (OfItem v) = (x : Item) → kind_of_call (item_call v x) ≡ k
+HasKind k (OfPair v) = (key x : Item) → kind_of_call (pair_call v key x) ≡ k
+HasKind k (Alone v) = kind_of_call (lone_call v) ≡ k
 
 -- the other way: a call as it is said
 abbrev pub phrase_of : Call → Phrase
