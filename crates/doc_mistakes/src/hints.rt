@@ -8,20 +8,13 @@ use objects::Kind;
 use serde_json::Value;
 use std::alloc::{AllocError, Global};
 use strsim::levenshtein;
-use vocabulary::{Verb, kind_of_text};
+use vocabulary::{KINDS, Verb, kind_of_text, kind_text, verbs_of};
 
 /// A text of more bytes gets no hint.
 const LONGEST: usize = 64;
 
 /// How many letters of a misspelt name are wrong at most.
 const MOST_WRONG: usize = 2;
-
-const KINDS: [&str; 6] = ["account", "counter", "set", "queue", "directory", "max"];
-
-const OPERATIONS: [&str; 19] = [
-    "deposit", "withdraw", "balance", "add", "sub", "read", "insert", "remove", "has", "size",
-    "enq", "deq", "length", "bind", "put", "unbind", "lookup", "raise", "top",
-];
 
 const SORTS: [&str; 5] = ["op", "if", "sub", "abort", "parallel"];
 
@@ -110,9 +103,10 @@ fn nearest_kind(
     version: u8,
 ) -> Result<Option<&'static str>, AllocError> {
     let mut best = None;
-    for name in KINDS.iter() {
-        if kind_of_text(version, *name).is_some() {
-            best = nearer(alloc, text, *name, best)?;
+    for kind in KINDS.iter() {
+        let name = kind_text(*kind);
+        if kind_of_text(version, name).is_some() {
+            best = nearer(alloc, text, name, best)?;
         }
     }
     Ok(name_of(best))
@@ -125,9 +119,10 @@ fn nearest_operation(
     kind: Kind,
 ) -> Result<Option<&'static str>, AllocError> {
     let mut best = None;
-    for name in OPERATIONS.iter() {
-        if Verb::of_text(version, kind, *name).is_some() {
-            best = nearer(alloc, text, *name, best)?;
+    for verb in verbs_of(kind) {
+        let name = verb.text();
+        if Verb::of_text(version, kind, name).is_some() {
+            best = nearer(alloc, text, name, best)?;
         }
     }
     Ok(name_of(best))

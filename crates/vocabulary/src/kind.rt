@@ -4,8 +4,8 @@ ghost use Rattle.vocabulary.specs.Words.{a_kind, is_kind_text, kind_of_text, kin
 
 use objects::Kind;
 
-// Every kind.
-const KINDS: [Kind; 6] = [
+/// Every kind.
+pub const KINDS: [Kind; 6] = [
     Kind::Account,
     Kind::Counter,
     Kind::Set,

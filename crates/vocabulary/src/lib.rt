@@ -11,7 +11,7 @@ mod response;
 mod verb;
 mod word;
 
-pub use kind::{a_kind, kind_of_text, kind_text};
+pub use kind::{KINDS, a_kind, kind_of_text, kind_text};
 pub use response::{Response, response_of};
-pub use verb::{AmountVerb, ItemVerb, LoneVerb, PairVerb, Phrase, Verb, phrase_of};
+pub use verb::{AmountVerb, ItemVerb, LoneVerb, PairVerb, Phrase, Verb, phrase_of, verbs_of};
 pub use word::Word;

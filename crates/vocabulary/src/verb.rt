@@ -91,8 +91,8 @@ const MAX_VERBS: [Verb; 2] = [
     Verb::Alone(LoneVerb::Top),
 ];
 
-// The verbs of a kind's calls.
-fn verbs_of(kind: Kind) -> &'static [Verb]
+/// The verbs of a kind's calls.
+pub fn verbs_of(kind: Kind) -> &'static [Verb]
     ensures { result.now ≡ verbs_of kind }
 {
     match kind {
