@@ -12,7 +12,7 @@ use Rattle.conflicts.specs.Strictness.{AreAsStrict, covers, strength_of}
 use Rattle.committed.specs.Summaries.{entries_of, strengths_of, AreCovered, IsCovered, IsSummary}
 use Rattle.conflicts.specs.declared.strength.Strength.{Strength}
 use Rattle.committed.proofs.StandsLemmas.{commute_turned, one_commutes}
-use Rattle.conflicts.proofs.StrengthLemmas.{given_strict}
+use Rattle.conflicts.proofs.EffectLemmas.{given_strict}
 
 -- what commutes with all of two lists commutes with all of both
 pub commutes_both : (e : Entry) (xs ys : List Entry) → CommutesWith e xs → CommutesWith e ys → CommutesWith e (xs ++ ys)

@@ -1,3 +1,2 @@
 pub mod ClassNumbers
 pub mod EffectLemmas
-pub mod StrengthLemmas

@@ -1,6 +1,6 @@
 use Rattle.std.proofs.Common.{sym, ◌∙◌}
 use Rattle.std.proofs.lemmas.Bool.{eqb-true, false≢true}
-use Rattle.conflicts.proofs.StrengthLemmas.{given_strict}
+use Rattle.conflicts.proofs.EffectLemmas.{given_strict}
 use Rattle.conflicts.proofs.strictness.are_as_strict.Goals as goal
 use Rattle.conflicts.proofs.strictness.are_as_strict.Goals.{then-covers, else-covers, then-is_paired, else-is_paired}
 use Rattle.conflicts.proofs.strictness.are_as_strict.Goals.{then-first-third, else-first-third}

@@ -1,6 +1,6 @@
 use Rattle.std.proofs.Common.{sym, ap, ◌∙◌}
 use Rattle.conflicts.specs.Strictness.{strength_of, covers}
-use Rattle.conflicts.proofs.StrengthLemmas.{given_strict}
+use Rattle.conflicts.proofs.EffectLemmas.{given_strict}
 use Rattle.conflicts.proofs.strictness.is_as_strict.Goals as goal
 
 pub returns-clause-strict : goal.returns-clause-strict

@@ -1,6 +1,6 @@
 use Rattle.std.proofs.Common.{ap}
 use Rattle.objects.specs.Tables.{effects_commute, OfSet, OfQueue, OfDirectory}
-use Rattle.conflicts.proofs.StrengthLemmas.{sets_strict, queues_strict, directories_strict, strict_together, as_effects, as_effect}
+use Rattle.conflicts.proofs.EffectLemmas.{sets_strict, queues_strict, directories_strict, strict_together, as_effects, as_effect}
 use Rattle.conflicts.proofs.strictness.together_as_strict.Goals as goal
 
 pub returns-in-Set-Set-Set-Set-Set-Set :
