@@ -1,5 +1,5 @@
--- Verbs and their calls: a call is said with its verb, a kind's verbs have its calls, and a call adds no items but those it is said with.
--- And which replies have an item.
+-- Words, verbs and their calls: each word is listed, a call is said with its verb, a kind's verbs have its calls, and a call adds no items
+-- but those it is said with. And which replies have an item.
 use Rattle.std.proofs.Common.{◌≡◌, ℕ, suc, ◌⊎◌, inl, inr, Bool, true, false, not, cond, List, [], ◌∷◌, Some, None, refl, sym, ap, subst}
 use Rattle.std.proofs.Common.{◌∙◌, arith}
 use Rattle.std.specs.Prelude.{is_some, ⊤}
@@ -30,8 +30,12 @@ use Rattle.objects.specs.declared.call.Call.TheVariants as call
 use Rattle.objects.specs.declared.call.Reply.{Reply}
 use Rattle.objects.specs.declared.call.Reply.TheVariants as reply
 use Rattle.objects.specs.declared.kind.Kind.{Kind}
-use Rattle.vocabulary.specs.Words.{HasKind, ItemsAre, amount_call, item_call, lone_call, pair_call, phrase_of, response_item, response_of}
-use Rattle.vocabulary.specs.Words.{phrase_verb, verb_of, verb_of_text, verbs_of}
+use Rattle.objects.specs.declared.kind.Kind.TheVariants as kind
+use Rattle.vocabulary.specs.declared.word.Word.{Word}
+use Rattle.vocabulary.specs.declared.word.Word.TheVariants as word
+use Rattle.vocabulary.specs.Words.{HasKind, ItemsAre, amount_call, item_call, kind_of_text, kind_since, kind_text, lone_call, pair_call}
+use Rattle.vocabulary.specs.Words.{phrase_of, phrase_verb, response_item, response_of, verb_of, verb_of_text, verb_since, verb_text}
+use Rattle.vocabulary.specs.Words.{verbs_of, word_of_text, word_text}
 use Rattle.vocabulary.specs.declared.verb.AmountVerb.{AmountVerb}
 use Rattle.vocabulary.specs.declared.verb.ItemVerb.{ItemVerb}
 use Rattle.vocabulary.specs.declared.verb.PairVerb.{PairVerb}
@@ -39,6 +43,23 @@ use Rattle.vocabulary.specs.declared.verb.LoneVerb.{LoneVerb}
 use Rattle.vocabulary.specs.declared.verb.Verb.{Verb}
 use Rattle.vocabulary.specs.declared.verb.Phrase.{Phrase}
 use Rattle.vocabulary.specs.declared.verb.Phrase.TheVariants as phrase
+
+-- ---- no word is left out of the lists, and none stands for two
+
+kind_again : (k : Kind) → kind_of_text (kind_since k) (kind_text k) ≡ Some k
+unfolding kind_of_text
+kind_again kind.Account = refl
+kind_again k = refl
+
+word_again : (w : Word) → word_of_text (word_text w) ≡ Some w
+unfolding word_of_text
+word_again word.Ok = refl
+word_again w = refl
+
+-- a call's verb is among those of the call's kind
+verb_again : (c : Call) → verb_of_text (verb_since (verb_of c)) (kind_of_call c) (verb_text (verb_of c)) ≡ Some (verb_of c)
+unfolding verb_of_text
+verb_again c = grind arith
 
 -- ---- verbs
 
