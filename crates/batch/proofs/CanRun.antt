@@ -3,7 +3,7 @@ use Rattle.std.proofs.Common.{◌≡◌, ℕ, ◌+◌, ◌<◌, ◌≤◌, Bool,
 use Rattle.std.proofs.Common.{append_assoc, zero, suc, Box, Global}
 use Rattle.std.proofs.lemmas.List.{append-nil, get_or-map}
 use Rattle.std.proofs.lemmas.Option.{slice_get_within, get_or_from_slice_get}
-use Rattle.objects.specs.declared.call.Call.{Call}
+use Rattle.objects.specs.declared.kind.Call.{Call}
 use Rattle.objects.specs.declared.kind.Kind.{Kind}
 use Rattle.meaning.specs.declared.end.End.TheVariants.{Ended}
 use Rattle.meaning.specs.declared.held.Held.{Held}

@@ -2,7 +2,7 @@
 use Rattle.std.proofs.Common.{◌≡◌, ℕ, List, [], ◌++◌, sym, subst}
 use Rattle.objects.specs.Parts.{ArePerformedOn, CanPerformOn}
 use Rattle.objects.specs.declared.entry.Entry.{Entry}
-use Rattle.objects.specs.declared.value.Value.{Value}
+use Rattle.objects.specs.declared.kind.Value.{Value}
 use Rattle.objects.proofs.PartLemmas.{can-first, can-next, performed-append, performed-none}
 
 -- Of all entries these are left. Once they are performed, all are.

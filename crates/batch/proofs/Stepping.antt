@@ -1,7 +1,7 @@
 -- What the steps of a block run to, kind by kind.
 use Rattle.std.proofs.Common.{◌≡◌, ℕ, Bool, List, [], get_or, refl, sym, ap, ◌∙◌, Option, Some, None, Vec, Box, Global}
-use Rattle.objects.specs.declared.call.Call.{Call}
-use Rattle.objects.specs.declared.call.Reply.{Reply}
+use Rattle.objects.specs.declared.kind.Call.{Call}
+use Rattle.objects.specs.declared.kind.Reply.{Reply}
 use Rattle.meaning.specs.declared.end.End.TheVariants.{Ended, Aborted}
 use Rattle.meaning.specs.declared.held.Held.{Held}
 use Rattle.meaning.specs.declared.held.Held.TheVariants.{Replied}

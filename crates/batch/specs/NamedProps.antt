@@ -1,12 +1,12 @@
 -- What a batch names has its texts in one way at most, so that a struct may keep it.
 use Rattle.std.specs.Prelude.{List, [], ◌∷◌}
 use Rattle.std.proofs.Props.{props}
-use Rattle.objects.specs.declared.call.Call.{Call}
+use Rattle.objects.specs.declared.kind.Call.{Call}
 use Rattle.vocabulary.specs.Words.{ItemsAre, phrase_of}
 use Rattle.vocabulary.specs.declared.verb.Phrase.{Phrase}
 use Rattle.vocabulary.specs.declared.verb.Phrase.TheVariants.{OfAmount, OfItem, OfPair, Alone}
-use Rattle.objects.specs.declared.value.Value.{Value}
-use Rattle.objects.specs.Contents.{Content, Number, Signed, Set, Queue, Directory, content_of}
+use Rattle.objects.specs.declared.kind.Value.{Value}
+use Rattle.objects.specs.Objects.{Content, Number, Signed, Set, Queue, Directory, content_of}
 use Rattle.meaning.specs.declared.template.Argument.{Argument}
 use Rattle.meaning.specs.declared.template.Argument.TheVariants as argument
 use Rattle.meaning.specs.declared.template.Refusal.{Refusal}

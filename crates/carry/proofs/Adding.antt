@@ -9,7 +9,7 @@ use Rattle.std.proofs.lemmas.Bool.{false_from_ne_true}
 use Rattle.std.proofs.lemmas.Slice.Eq.{bytes_eq-Decides}
 use Rattle.std.proofs.Math.ListN.{drop_of_length-le}
 use Rattle.objects.specs.Entries.{State}
-use Rattle.objects.specs.declared.value.Value.{Value}
+use Rattle.objects.specs.declared.kind.Value.{Value}
 use Rattle.doc_tree.specs.Scope.{Table, is_listed, with_text}
 use Rattle.carry.specs.Joined.{Named, StartOf, added, are_of_one_kind, first_clash, own}
 use Rattle.carry.proofs.Walking.{next_element}

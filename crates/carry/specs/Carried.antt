@@ -4,9 +4,8 @@ use Rattle.std.specs.Fmt.{decimal, signed_decimal}
 use Rattle.std.specs.FinMap as finite_map
 use Rattle.atoms.specs.declared.item.Item.{Item}
 use Rattle.objects.specs.Entries.{State}
-use Rattle.objects.specs.Objects.{kind_of_value}
-use Rattle.objects.specs.declared.value.Value.{Value}
-use Rattle.objects.specs.Contents.{Content, Number, Signed, Set, Queue, Directory, content_of}
+use Rattle.objects.specs.Objects.{kind_of_value, Content, Number, Signed, Set, Queue, Directory, content_of}
+use Rattle.objects.specs.declared.kind.Value.{Value}
 use Rattle.meaning.specs.WellFormed.{size_of}
 use Rattle.meaning.specs.Words.{Naming, joined_by, members}
 use Rattle.vocabulary.specs.Words.{kind_text}

@@ -7,9 +7,9 @@ use Rattle.std.specs.FinMap as finite_map
 use Rattle.atoms.specs.Item.{item_cmp}
 use Rattle.atoms.specs.declared.item.Item.{Item}
 use Rattle.objects.specs.Entries.{State}
-use Rattle.objects.specs.declared.value.Value.{Value}
-use Rattle.objects.specs.declared.value.Value.TheVariants as value
-use Rattle.objects.specs.Contents.{Content, Set, Queue, Directory, content_of}
+use Rattle.objects.specs.declared.kind.Value.{Value}
+use Rattle.objects.specs.declared.kind.Value.TheVariants as value
+use Rattle.objects.specs.Objects.{Content, Set, Queue, Directory, content_of}
 use Rattle.meaning.specs.Words.{Naming, members}
 use Rattle.batch.specs.Limits.{entries_in}
 use Rattle.batch.specs.Names.{AreNames, is_name}

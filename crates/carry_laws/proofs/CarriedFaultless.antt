@@ -11,10 +11,9 @@ use Rattle.serde_json.specs.Find.{of_integer}
 use Rattle.serde_json.specs.Events.{items_len}
 use Rattle.atoms.specs.declared.item.Item.{Item}
 use Rattle.objects.specs.Entries.{State}
-use Rattle.objects.specs.Objects.{kind_of_value}
+use Rattle.objects.specs.Objects.{kind_of_value, content_length}
 use Rattle.objects.specs.declared.kind.Kind.TheVariants as kind
-use Rattle.objects.specs.declared.value.Value.{Value}
-use Rattle.objects.specs.Contents.{content_length}
+use Rattle.objects.specs.declared.kind.Value.{Value}
 use Rattle.objects.proofs.KindLemmas.{by_content}
 use Rattle.meaning.specs.Words.{Naming, members}
 use Rattle.batch.specs.Limits.{entries_in}

@@ -14,9 +14,8 @@ use Rattle.json.specs.Token.{Token}
 use Rattle.json.proofs.Printed.Decimals.{IsNumber-decimal, IsNumber-signed_decimal}
 use Rattle.atoms.specs.declared.item.Item.{Item}
 use Rattle.objects.specs.Entries.{State}
-use Rattle.objects.specs.Objects.{kind_of_value}
-use Rattle.objects.specs.declared.value.Value.{Value}
-use Rattle.objects.specs.Contents.{Content, Number, Signed, Set, Queue, Directory, content_of}
+use Rattle.objects.specs.Objects.{kind_of_value, Content, Number, Signed, Set, Queue, Directory, content_of}
+use Rattle.objects.specs.declared.kind.Value.{Value}
 use Rattle.meaning.specs.Words.{Naming, members, joined_by}
 use Rattle.vocabulary.specs.Words.{kind_text}
 use Rattle.batch.specs.Names.{is_name}

@@ -9,7 +9,7 @@ use Rattle.std.proofs.lemmas.Slice.Eq.{bytes_eq-Decides}
 use Rattle.objects.specs.Entries.{State, kinds}
 use Rattle.objects.specs.Objects.{kind_of_value}
 use Rattle.objects.specs.declared.kind.Kind.{Kind}
-use Rattle.objects.specs.declared.value.Value.{Value}
+use Rattle.objects.specs.declared.kind.Value.{Value}
 use Rattle.vocabulary.specs.Words.{kind_of_text, kind_text, verb_of_text}
 use Rattle.vocabulary.specs.declared.verb.Verb.{Verb}
 use Rattle.batch.specs.Names.{names_of}

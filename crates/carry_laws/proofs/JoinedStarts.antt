@@ -7,7 +7,7 @@ use Rattle.std.proofs.lemmas.List.Sums.{AllPass-from_list_all}
 use Rattle.std.proofs.lemmas.Option.{slice_get_within}
 use Rattle.atoms.specs.declared.item.Item.{Item}
 use Rattle.objects.specs.Entries.{State}
-use Rattle.objects.specs.declared.value.Value.{Value}
+use Rattle.objects.specs.declared.kind.Value.{Value}
 use Rattle.batch.specs.Limits.{entries_in}
 use Rattle.batch.specs.Named.{AllNamedValues, IsNamedValue}
 use Rattle.batch.specs.Names.{AreNames, Texts, is_name, names_of}

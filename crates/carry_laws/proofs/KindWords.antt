@@ -21,29 +21,17 @@ use Rattle.carry_laws.proofs.Versions.{each_version}
 pub kind_named : (k : Kind) → is_name 1 (kind_text k) ≡ true
 unfolding is_name
 kind_named kind.Account = refl
-kind_named kind.Counter = refl
-kind_named kind.Set = refl
-kind_named kind.Queue = refl
-kind_named kind.Directory = refl
-kind_named kind.Max = refl
+kind_named k = refl
 
 kind_of_4 : (k : Kind) → kind_of_text 4 (kind_text k) ≡ Some k
 unfolding kind_of_text
 kind_of_4 kind.Account = refl
-kind_of_4 kind.Counter = refl
-kind_of_4 kind.Set = refl
-kind_of_4 kind.Queue = refl
-kind_of_4 kind.Directory = refl
-kind_of_4 kind.Max = refl
+kind_of_4 k = refl
 
 kind_of_5 : (k : Kind) → kind_of_text 5 (kind_text k) ≡ Some k
 unfolding kind_of_text
 kind_of_5 kind.Account = refl
-kind_of_5 kind.Counter = refl
-kind_of_5 kind.Set = refl
-kind_of_5 kind.Queue = refl
-kind_of_5 kind.Directory = refl
-kind_of_5 kind.Max = refl
+kind_of_5 k = refl
 
 -- the word of a kind names it in each version that objects are carried into
 pub kind_back : (version : ℕ) → IsCarriedVersion version → (k : Kind) → kind_of_text version (kind_text k) ≡ Some k
@@ -68,29 +56,17 @@ verbs_before (suc zero) above below kind.Queue word v is =
     by false true c h = h
     by false false true h = cc
     by false false false h = cc
-verbs_before (suc zero) above below kind.Account word v is = is
-verbs_before (suc zero) above below kind.Counter word v is = is
-verbs_before (suc zero) above below kind.Set word v is = is
-verbs_before (suc zero) above below kind.Directory word v is = is
-verbs_before (suc zero) above below kind.Max word v is = is
+verbs_before (suc zero) above below k word v is = is
 verbs_before (suc (suc zero)) above below k word v is = since_two k is
   where
     since_two : (k : Kind) → verb_of_text 2 k word ≡ Some v → verb_of_text FIRST_CARRIED k word ≡ Some v
     since_two kind.Account h = h
-    since_two kind.Counter h = h
-    since_two kind.Set h = h
-    since_two kind.Queue h = h
-    since_two kind.Directory h = h
-    since_two kind.Max h = h
+    since_two k h = h
 verbs_before (suc (suc (suc zero))) above below k word v is = since_three k is
   where
     since_three : (k : Kind) → verb_of_text 3 k word ≡ Some v → verb_of_text FIRST_CARRIED k word ≡ Some v
     since_three kind.Account h = h
-    since_three kind.Counter h = h
-    since_three kind.Set h = h
-    since_three kind.Queue h = h
-    since_three kind.Directory h = h
-    since_three kind.Max h = h
+    since_three k h = h
 verbs_before (suc (suc (suc (suc zero)))) above below k word v is = is
 verbs_before (suc (suc (suc (suc (suc n))))) above below k word v is = absurd (omega arith)
 
@@ -98,11 +74,7 @@ verbs_before (suc (suc (suc (suc (suc n))))) above below k word v is = absurd (o
 last_verbs : (k : Kind) (word : List ℕ) → verb_of_text LAST_VERSION k word ≡ verb_of_text FIRST_CARRIED k word
 unfolding verb_of_text
 last_verbs kind.Account word = refl
-last_verbs kind.Counter word = refl
-last_verbs kind.Set word = refl
-last_verbs kind.Queue word = refl
-last_verbs kind.Directory word = refl
-last_verbs kind.Max word = refl
+last_verbs k word = refl
 
 -- and so of each that objects are carried into
 pub carried_verbs : (version : ℕ) → IsCarriedVersion version → (k : Kind) (word : List ℕ)

@@ -5,8 +5,8 @@ use Rattle.std.specs.FinMap as finite_map
 use Rattle.std.specs.List.{AllByRecursion}
 use Rattle.atoms.specs.declared.item.Item.{Item}
 use Rattle.objects.specs.Entries.{State}
-use Rattle.objects.specs.declared.value.Value.{Value}
-use Rattle.objects.specs.Contents.{Content, Set, Queue, Directory, content_of}
+use Rattle.objects.specs.declared.kind.Value.{Value}
+use Rattle.objects.specs.Objects.{Content, Set, Queue, Directory, content_of}
 use Rattle.meaning.specs.Words.{Naming, members}
 use Rattle.batch.specs.Names.{is_name}
 use Rattle.meaning.specs.declared.limits.TheConstants.{MAX_START}

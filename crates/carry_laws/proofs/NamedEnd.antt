@@ -3,14 +3,14 @@ use Rattle.std.proofs.Common.{◌≡◌, ◌∙◌, ap, inl, inr, ℕ, zero, suc
 use Rattle.std.proofs.Common.{refl, sym, subst, arith}
 use Rattle.std.specs.Prelude.{slice_index_or}
 use Rattle.objects.specs.Entries.{State, after_call, reply_at}
-use Rattle.objects.specs.Objects.{kind_of_call, kind_of_value, value_after}
+use Rattle.objects.specs.Objects.{kind_of_call, kind_of_value, value_after, value_reply}
 use Rattle.objects.specs.declared.kind.Kind.TheVariants as kind
-use Rattle.objects.proofs.CommuteLemmas.{one_kind}
-use Rattle.objects.specs.declared.call.Call.{Call}
-use Rattle.objects.specs.declared.call.Call.TheVariants as to
-use Rattle.objects.specs.declared.call.Reply.{Reply}
-use Rattle.objects.specs.declared.value.Value.{Value}
-use Rattle.objects.specs.declared.value.Value.TheVariants as value
+use Rattle.objects.proofs.KindLemmas.{one_kind}
+use Rattle.objects.specs.declared.kind.Call.{Call}
+use Rattle.objects.specs.declared.kind.Call.TheVariants as to
+use Rattle.objects.specs.declared.kind.Reply.{Reply}
+use Rattle.objects.specs.declared.kind.Value.{Value}
+use Rattle.objects.specs.declared.kind.Value.TheVariants as value
 use Rattle.vocabulary.proofs.Words.{amount_phrase, directory_items, item_phrase, item_reply, pair_phrase, queue_items, set_items}
 use Rattle.meaning.specs.declared.end.End.TheVariants.{Ended, Aborted}
 use Rattle.meaning.specs.declared.held.Held.{Held}
@@ -35,8 +35,7 @@ use Rattle.atoms.specs.declared.directory.DirectoryReply.TheVariants.{Bound, Tak
 use Rattle.atoms.specs.declared.queue.QueueReply.TheVariants.{Got}
 use Rattle.atoms.specs.Directory.{Directories, directory_reply, found_or_missing}
 use Rattle.atoms.specs.Queue.{queue_reply, front_of}
-use Rattle.objects.specs.declared.call.Reply.TheVariants as of
-use Rattle.objects.specs.Objects.{value_reply}
+use Rattle.objects.specs.declared.kind.Reply.TheVariants as of
 use Rattle.std.specs.FinMap as finite_map
 use Rattle.std.specs.List.{All}
 use Rattle.std.specs.Option.{ForSome, option_and_then}
@@ -60,13 +59,10 @@ module _ (texts : Texts) where
   -- ---- one call
 
   value_named : (v : Value) (c : Call) → IsNamedValue texts v → IsNamedCall texts c → IsNamedValue texts (value_after v c)
-  value_named (value.Account n) (to.Account c) had named = tt
-  value_named (value.Counter n) (to.Counter c) had named = tt
-  value_named (value.Max n) (to.Max c) had named = tt
   value_named (value.Set s) (to.Set c) had named = set_items (HasText texts) s c had named
   value_named (value.Queue q) (to.Queue c) had named = queue_items (HasText texts) q c had named
   value_named (value.Directory d) (to.Directory c) had named = directory_items (HasText texts) d c had named
-  value_named v c had named = had
+  value_named v c had named = grind arith
 
   after_named : (state : State) (object : ℕ) (call : Call) → AllNamedValues texts state → IsNamedCall texts call
       → AllNamedValues texts (after_call state object call)

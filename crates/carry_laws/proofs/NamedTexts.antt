@@ -10,8 +10,8 @@ use Rattle.std.proofs.lemmas.Slice.Eq.{bytes_eq-Decides}
 use Rattle.atoms.specs.declared.item.Item.{Item}
 use Rattle.atoms.proofs.Items.{one_item}
 use Rattle.objects.specs.Entries.{State}
-use Rattle.objects.specs.declared.value.Value.{Value}
-use Rattle.objects.specs.declared.value.Value.TheVariants as value
+use Rattle.objects.specs.declared.kind.Value.{Value}
+use Rattle.objects.specs.declared.kind.Value.TheVariants as value
 use Rattle.batch.specs.Named.{AllNamedValues, HasText, IsNamedValue}
 use Rattle.batch.specs.Names.{AreNames, Texts, is_name, names_of}
 use Rattle.carry_laws.specs.Carrying.{HasItem, SomeHasItem, object_names}

@@ -9,13 +9,12 @@ use Rattle.atoms.specs.Directory.{Directories}
 use Rattle.atoms.specs.Item.{item_cmp}
 use Rattle.atoms.specs.ItemSet.{Sets}
 use Rattle.atoms.specs.declared.item.Item.{Item}
-use Rattle.objects.specs.Objects.{kind_of_value}
-use Rattle.objects.specs.declared.value.Value.{Value}
+use Rattle.objects.specs.Objects.{kind_of_value, Content, Number, Signed, Set, Queue, Directory, content_length, content_of, form_of}
+use Rattle.objects.specs.declared.kind.Value.{Value}
 use Rattle.objects.specs.declared.kind.Kind.{Kind}
 use Rattle.objects.specs.declared.kind.NumberKind.{NumberKind}
 use Rattle.objects.specs.declared.kind.ValueForm.{ValueForm}
 use Rattle.objects.specs.declared.kind.ValueForm.TheVariants as value_form
-use Rattle.objects.specs.Contents.{Content, Number, Signed, Set, Queue, Directory, content_length, content_of, form_of}
 use Rattle.objects.proofs.KindLemmas.{by_content, number_held, number_of_kind, only_directories, only_queues, only_sets, only_signed}
 use Rattle.meaning.specs.Words.{Naming, members}
 use Rattle.batch.specs.Names.{Texts, names_of}

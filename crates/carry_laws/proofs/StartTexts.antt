@@ -6,7 +6,7 @@ use Rattle.serde_json.specs.Find.{as_array}
 use Rattle.objects.specs.declared.kind.Kind.{Kind}
 use Rattle.objects.specs.declared.kind.ValueForm.{ValueForm}
 use Rattle.objects.specs.declared.kind.ValueForm.TheVariants as value_form
-use Rattle.objects.specs.Contents.{form_of}
+use Rattle.objects.specs.Objects.{form_of}
 use Rattle.doc_tree.specs.Asked.{element_asked, entry_asked, key_of, kind_in, object_name, object_name_asked, object_shape_asked}
 use Rattle.doc_tree.specs.Asked.{or_no_items, pair_asked, part, text_of, value_of}
 use Rattle.doc_tree.specs.Scope.{Numbers, Table, with_item, with_text}

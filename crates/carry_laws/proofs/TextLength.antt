@@ -7,10 +7,9 @@ use Rattle.std.specs.List.{AllByRecursion}
 use Rattle.std.proofs.lemmas.Fmt.{length-decimal-le}
 use Rattle.atoms.specs.declared.item.Item.{Item}
 use Rattle.objects.specs.Entries.{State}
-use Rattle.objects.specs.Objects.{kind_of_value}
+use Rattle.objects.specs.Objects.{kind_of_value, Content, Number, Signed, Set, Queue, Directory, content_length, content_of}
 use Rattle.objects.specs.declared.kind.Kind.{Kind}
-use Rattle.objects.specs.declared.value.Value.{Value}
-use Rattle.objects.specs.Contents.{Content, Number, Signed, Set, Queue, Directory, content_length, content_of}
+use Rattle.objects.specs.declared.kind.Value.{Value}
 use Rattle.meaning.specs.Words.{Naming, members, joined_by}
 use Rattle.vocabulary.specs.Words.{kind_text}
 use Rattle.batch.specs.Limits.{all_entries_in, entries_in}

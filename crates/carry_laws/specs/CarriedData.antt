@@ -5,9 +5,8 @@ use Rattle.serde_json.specs.Data.{Data, number, string, array, object, unsigned,
 use Rattle.serde_json.specs.Find.{of_integer}
 use Rattle.atoms.specs.declared.item.Item.{Item}
 use Rattle.objects.specs.Entries.{State}
-use Rattle.objects.specs.Objects.{kind_of_value}
-use Rattle.objects.specs.declared.value.Value.{Value}
-use Rattle.objects.specs.Contents.{Content, Number, Signed, Set, Queue, Directory, content_of}
+use Rattle.objects.specs.Objects.{kind_of_value, Content, Number, Signed, Set, Queue, Directory, content_of}
+use Rattle.objects.specs.declared.kind.Value.{Value}
 use Rattle.meaning.specs.Words.{Naming, members}
 use Rattle.vocabulary.specs.Words.{kind_text}
 

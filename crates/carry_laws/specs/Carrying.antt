@@ -6,8 +6,8 @@ use Rattle.std.specs.FinSet as finite_set
 use Rattle.std.specs.FinMap as finite_map
 use Rattle.atoms.specs.declared.item.Item.{Item}
 use Rattle.objects.specs.Entries.{State}
-use Rattle.objects.specs.declared.value.Value.{Value}
-use Rattle.objects.specs.declared.value.Value.TheVariants as value
+use Rattle.objects.specs.declared.kind.Value.{Value}
+use Rattle.objects.specs.declared.kind.Value.TheVariants as value
 use Rattle.meaning.specs.Words.{Naming}
 use Rattle.batch.specs.Names.{AreNames, is_name}
 use Rattle.carry.specs.Carried.{first_unfit}

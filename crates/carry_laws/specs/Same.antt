@@ -5,9 +5,8 @@ use Rattle.std.specs.FinMap as finite_map
 use Rattle.atoms.specs.Item.{item_cmp}
 use Rattle.atoms.specs.declared.item.Item.{Item}
 use Rattle.objects.specs.Entries.{State}
-use Rattle.objects.specs.declared.value.Value.{Value}
-use Rattle.objects.specs.Contents.{Content, Number, Signed, Set, Queue, Directory, content_of}
-use Rattle.objects.specs.Objects.{kind_of_value}
+use Rattle.objects.specs.declared.kind.Value.{Value}
+use Rattle.objects.specs.Objects.{Content, Number, Signed, Set, Queue, Directory, content_of, kind_of_value}
 use Rattle.meaning.specs.Words.{Naming}
 use Rattle.carry.specs.Joined.{StartOf}
 

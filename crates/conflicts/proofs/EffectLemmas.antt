@@ -1,4 +1,4 @@
--- Effects of any kind: when operations commute, by their effects, their classes and their items; and which are as strict, by their strengths.
+-- Effects of any kind: which operations commute, by their effects, classes and items; and which are as strict, by their strengths.
 use Rattle.std.proofs.Common.{◌≡◌, ◌&&◌, ℕ, Bool, true, false, nat_eq, refl, sym, ap, ◌∙◌, Option, Some, None, nat_le, arith}
 use Rattle.std.proofs.lemmas.Bool.{eqb-true, and_parts, eq-eqb, le-leb}
 use Rattle.std.specs.Prelude.{if◌then◌else◌}
@@ -11,16 +11,16 @@ use Rattle.atoms.proofs.MaxRegisterLemmas.{same_max_call}
 use Rattle.atoms.specs.declared.item.Item.{Item}
 use Rattle.atoms.specs.declared.item_set.SetEffect.{SetEffect}
 use Rattle.atoms.specs.declared.queue.QueueEffect.{QueueEffect}
-use Rattle.objects.specs.Tables.{Effect, OfSet, OfQueue, OfDirectory, effect_of, effects_commute}
-use Rattle.objects.specs.declared.call.Call.{Call}
-use Rattle.objects.specs.declared.call.Call.TheVariants as call
-use Rattle.objects.specs.contracts.call.CallPartialEq.TheImpl as call_eq
-use Rattle.objects.specs.declared.call.Reply.{Reply}
-use Rattle.objects.specs.contracts.call.ReplyPartialEq.TheImpl as reply_eq
+use Rattle.objects.specs.Objects.{Effect, OfSet, OfQueue, OfDirectory, effect_of, effects_commute}
+use Rattle.objects.specs.declared.kind.Call.{Call}
+use Rattle.objects.specs.declared.kind.Call.TheVariants as call
+use Rattle.objects.specs.contracts.kind.CallPartialEq.TheImpl as call_eq
+use Rattle.objects.specs.declared.kind.Reply.{Reply}
+use Rattle.objects.specs.contracts.kind.ReplyPartialEq.TheImpl as reply_eq
 use Rattle.objects.specs.declared.entry.Entry.{Entry}
 use Rattle.objects.specs.contracts.entry.EntryPartialEq.TheImpl as entry_eq
 use Rattle.objects.specs.Entries.{CommuteForward}
-use Rattle.objects.proofs.CommuteLemmas.{entries_exact}
+use Rattle.objects.proofs.KindLemmas.{entries_exact}
 use Rattle.conflicts.specs.Effects.{effect_class, effect_item, effect_strength}
 use Rattle.conflicts.specs.declared.classes.Class.{Class}
 use Rattle.conflicts.specs.Classes.{class_of, always_commute, is_by_item}

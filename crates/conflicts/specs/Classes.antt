@@ -1,8 +1,8 @@
 -- Classes of operations that always commute forward.
 use Rattle.std.specs.Prelude.{ℕ, ◌+◌, ◌^◌, Bool, true, false, not, cond, List, [], ◌∷◌}
-use Rattle.objects.specs.declared.call.Call.{Call}
-use Rattle.objects.specs.declared.call.Reply.{Reply}
-use Rattle.objects.specs.Tables.{effect_of}
+use Rattle.objects.specs.declared.kind.Call.{Call}
+use Rattle.objects.specs.declared.kind.Reply.{Reply}
+use Rattle.objects.specs.Objects.{effect_of}
 use Rattle.conflicts.specs.Effects.{effect_class}
 use Rattle.conflicts.specs.declared.classes.Class.{Class}
 use Rattle.conflicts.specs.declared.classes.Class.TheVariants.{Deposit, Withdrawal, Refusal, Balance, Count, Raise, Change, Put, Enqueue}

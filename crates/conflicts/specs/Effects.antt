@@ -14,7 +14,7 @@ use Rattle.atoms.specs.declared.directory.KeyEffect.{KeyEffect}
 use Rattle.atoms.specs.declared.directory.KeyEffect.TheVariants as key
 use Rattle.atoms.specs.declared.max_register.MaxEffect.{MaxEffect}
 use Rattle.atoms.specs.declared.max_register.MaxEffect.TheVariants as max
-use Rattle.objects.specs.Tables.{Effect, OfAccount, OfCounter, OfSet, OfQueue, OfDirectory, OfMax, Mixed}
+use Rattle.objects.specs.Objects.{Effect, OfAccount, OfCounter, OfSet, OfQueue, OfDirectory, OfMax, Mixed}
 use Rattle.conflicts.specs.declared.classes.Class.{Class}
 use Rattle.conflicts.specs.declared.classes.Class.TheVariants.{Deposit, Withdrawal, Refusal, Balance, Count, Raise, Change, Put, Enqueue}
 use Rattle.conflicts.specs.declared.classes.Class.TheVariants.{Dequeue, Size, Look, Taken}

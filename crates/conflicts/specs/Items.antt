@@ -1,10 +1,10 @@
 -- The items that operations are about.
 use Rattle.std.specs.Prelude.{◌==◌, ◌&&◌, Bool, true, false, Option, Some, None, if◌then◌else◌}
 use Rattle.atoms.specs.declared.item.Item.{Item}
-use Rattle.objects.specs.declared.call.Call.{Call}
-use Rattle.objects.specs.declared.call.Reply.{Reply}
+use Rattle.objects.specs.declared.kind.Call.{Call}
+use Rattle.objects.specs.declared.kind.Reply.{Reply}
 use Rattle.objects.specs.declared.entry.Entry.{Entry}
-use Rattle.objects.specs.Tables.{effect_of}
+use Rattle.objects.specs.Objects.{effect_of}
 use Rattle.conflicts.specs.Effects.{effect_item}
 use Rattle.conflicts.specs.Classes.{class_of, is_by_item}
 

@@ -2,7 +2,7 @@
 use Rattle.std.specs.Prelude.{◌&&◌, ◌==◌, Bool, nat_le, if◌then◌else◌, IsTrue}
 use Rattle.objects.specs.declared.entry.Entry.{Entry}
 use Rattle.objects.specs.Entries.{CommuteForward}
-use Rattle.objects.specs.Tables.{effect_of}
+use Rattle.objects.specs.Objects.{effect_of}
 use Rattle.conflicts.specs.Effects.{effect_strength}
 use Rattle.conflicts.specs.contracts.effect.EffectKindPartialEq.TheImpl as kind_eq
 use Rattle.conflicts.specs.declared.strength.Strength.{Strength}

@@ -9,9 +9,9 @@ use Rattle.serde_json.specs.Find.{as_array, as_str, get}
 use Rattle.objects.specs.declared.kind.Kind.{Kind}
 use Rattle.objects.specs.declared.kind.ValueForm.{ValueForm}
 use Rattle.objects.specs.declared.kind.ValueForm.TheVariants as value_form
-use Rattle.objects.specs.Contents.{form_of}
-use Rattle.objects.specs.declared.value.Value.{Value}
-use Rattle.objects.specs.declared.value.Value.TheVariants as value
+use Rattle.objects.specs.Objects.{form_of}
+use Rattle.objects.specs.declared.kind.Value.{Value}
+use Rattle.objects.specs.declared.kind.Value.TheVariants as value
 use Rattle.batch.specs.Names.{is_name}
 use Rattle.doc_rules.specs.declared.rule.Rule.TheVariants.{Start}
 use Rattle.doc_rules.specs.declared.rule.StartRule.TheVariants.{Of}

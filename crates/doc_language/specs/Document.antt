@@ -10,9 +10,9 @@ use Rattle.atoms.specs.declared.item.Item.{Item}
 use Rattle.objects.specs.declared.kind.Kind.{Kind}
 use Rattle.objects.specs.declared.kind.ValueForm.{ValueForm}
 use Rattle.objects.specs.declared.kind.ValueForm.TheVariants as value_form
-use Rattle.objects.specs.Contents.{form_of, number_value}
-use Rattle.objects.specs.declared.value.Value.{Value}
-use Rattle.objects.specs.declared.value.Value.TheVariants as value
+use Rattle.objects.specs.Objects.{form_of, number_value}
+use Rattle.objects.specs.declared.kind.Value.{Value}
+use Rattle.objects.specs.declared.kind.Value.TheVariants as value
 use Rattle.objects.specs.Entries.{kinds}
 use Rattle.vocabulary.specs.Words.{amount_call, lone_call, verb_of_text}
 use Rattle.vocabulary.specs.declared.verb.Verb.{Verb}

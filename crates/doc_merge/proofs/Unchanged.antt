@@ -1,7 +1,7 @@
 -- Blocks whose items and reasons keep their numbers stay as they are.
 use Rattle.std.proofs.Common.{◌≡◌, ℕ, List, [], ◌∷◌, map, Option, None, Some, refl, ap}
-use Rattle.objects.specs.declared.call.Call.{Call}
-use Rattle.objects.specs.declared.call.Call.TheVariants as call
+use Rattle.objects.specs.declared.kind.Call.{Call}
+use Rattle.objects.specs.declared.kind.Call.TheVariants as call
 use Rattle.atoms.specs.declared.account.AccountCall.TheVariants as account
 use Rattle.atoms.specs.declared.counter.CounterCall.TheVariants as counter
 use Rattle.atoms.specs.declared.item_set.SetCall.TheVariants as set
@@ -25,25 +25,7 @@ use Rattle.doc_merge.specs.Renumbered.{renumbered_refusal, renumbered_step, renu
 
 -- a call whose items keep their numbers
 call_stays : (c : Call) → renumbered_call (new_number []) c ≡ c
-call_stays (call.Account (account.Deposit a)) = refl
-call_stays (call.Account (account.Withdraw a)) = refl
-call_stays (call.Account account.Balance) = refl
-call_stays (call.Counter (counter.Add a)) = refl
-call_stays (call.Counter (counter.Sub a)) = refl
-call_stays (call.Counter counter.Read) = refl
-call_stays (call.Set (set.Insert x)) = refl
-call_stays (call.Set (set.Remove x)) = refl
-call_stays (call.Set (set.Has x)) = refl
-call_stays (call.Set set.Size) = refl
-call_stays (call.Queue (queue.Enq x)) = refl
-call_stays (call.Queue queue.Deq) = refl
-call_stays (call.Queue queue.Length) = refl
-call_stays (call.Directory (directory.Bind k x)) = refl
-call_stays (call.Directory (directory.Put k x)) = refl
-call_stays (call.Directory (directory.Unbind k)) = refl
-call_stays (call.Directory (directory.Lookup k)) = refl
-call_stays (call.Max (max.Raise a)) = refl
-call_stays (call.Max max.Top) = refl
+call_stays c = grind arith
 
 -- a test
 test_stays : (test : Test) → renumbered_test (new_number []) test ≡ test

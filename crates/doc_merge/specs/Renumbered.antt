@@ -1,7 +1,7 @@
 -- Transactions whose items and reasons have other numbers.
 use Rattle.std.specs.Prelude.{ℕ, List, [], ◌∷◌, get_or, map, option_map}
 use Rattle.atoms.specs.declared.item.Item.{Item}
-use Rattle.objects.specs.declared.call.Call.{Call}
+use Rattle.objects.specs.declared.kind.Call.{Call}
 use Rattle.doc_tree.specs.Scope.{Table, number_of, with_text}
 use Rattle.vocabulary.specs.Words.{amount_call, item_call, lone_call, pair_call, phrase_of}
 use Rattle.vocabulary.specs.declared.verb.Phrase.{Phrase}

@@ -6,7 +6,7 @@ use Rattle.serde_json.specs.Find.{as_object, as_str, at, get}
 use Rattle.objects.specs.declared.kind.Kind.{Kind}
 use Rattle.objects.specs.declared.kind.ValueForm.{ValueForm}
 use Rattle.objects.specs.declared.kind.ValueForm.TheVariants as value_form
-use Rattle.objects.specs.Contents.{form_of}
+use Rattle.objects.specs.Objects.{form_of}
 use Rattle.meaning.specs.declared.limits.TheConstants.{MAX_DEPTH, MAX_START}
 use Rattle.meaning.specs.WellFormed.{largest_amount}
 use Rattle.doc_rules.specs.declared.form.Form.{Form}

@@ -14,9 +14,9 @@ use Rattle.objects.specs.Entries.{State, kinds}
 use Rattle.objects.specs.declared.kind.Kind.{Kind}
 use Rattle.objects.specs.declared.kind.NumberKind.{NumberKind}
 use Rattle.objects.specs.declared.kind.ValueForm.TheVariants as value_form
-use Rattle.objects.specs.Contents.{form_of, number_value}
-use Rattle.objects.specs.declared.value.Value.{Value}
-use Rattle.objects.specs.declared.value.Value.TheVariants as value
+use Rattle.objects.specs.Objects.{form_of, number_value}
+use Rattle.objects.specs.declared.kind.Value.{Value}
+use Rattle.objects.specs.declared.kind.Value.TheVariants as value
 use Rattle.doc_tree.specs.Answer.{AreMet, IsMet}
 use Rattle.doc_tree.specs.Asked.{declared_by, kind_in, names_of, number_start, object_name, object_name_asked, object_shape_asked, part}
 use Rattle.doc_tree.specs.Asked.{signed_start}

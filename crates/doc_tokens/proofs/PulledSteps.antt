@@ -10,7 +10,7 @@ use Rattle.meaning.specs.declared.template.Template.{Template}
 use Rattle.meaning.specs.declared.template.Template.TheVariants.{Given}
 use Rattle.meaning.specs.declared.template.Refusal.{Refusal}
 use Rattle.meaning.specs.declared.template.Refusal.TheVariants.{GoesOn}
-use Rattle.objects.specs.declared.call.Call.{Call}
+use Rattle.objects.specs.declared.kind.Call.{Call}
 use Rattle.batch.specs.declared.tree.Step.{Step, the_lemmas}
 use Rattle.batch.specs.Views.{step_view}
 use Rattle.doc_tree.specs.declared.counts.Counts.{Counts}

@@ -12,7 +12,7 @@ use lib.Utf8.{encode, encodes, scalar, scalar_cases, scalars}
 use Rattle.objects.specs.Entries.{State, kinds}
 use Rattle.objects.specs.Objects.{kind_of_value}
 use Rattle.objects.specs.declared.kind.Kind.{Kind}
-use Rattle.objects.specs.declared.value.Value.{Value}
+use Rattle.objects.specs.declared.kind.Value.{Value}
 use Rattle.batch.specs.Names.{texts_of}
 use Rattle.doc_tree.specs.Digests.{digest_in, digest_of, number_of_bytes, AreRight, IsObject, IsRight}
 use Rattle.doc_tree.specs.Scope.{place_of}

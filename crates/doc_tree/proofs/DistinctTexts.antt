@@ -11,7 +11,7 @@ use Rattle.serde_json.specs.Find.{as_array, as_str, get}
 use Rattle.objects.specs.declared.kind.Kind.{Kind}
 use Rattle.objects.specs.declared.kind.ValueForm.{ValueForm}
 use Rattle.objects.specs.declared.kind.ValueForm.TheVariants as value_form
-use Rattle.objects.specs.Contents.{form_of}
+use Rattle.objects.specs.Objects.{form_of}
 use Rattle.doc_tree.specs.Asked.{children_in, else_reason, handlers_in, if_label, is_source, key_of, kind_in, name_item, objects_in}
 use Rattle.doc_tree.specs.Asked.{or_no_items, part, scope_after, setting_in, sort_of, subject_of, text_of, transactions_in, value_of}
 use Rattle.doc_tree.specs.Asked.{verb_in, version_in}

@@ -10,9 +10,8 @@ use Rattle.serde_json.specs.declared.value.Value.{Value}
 use Rattle.objects.specs.declared.kind.Kind.{Kind}
 use Rattle.objects.specs.declared.kind.ValueForm.{ValueForm}
 use Rattle.objects.specs.declared.kind.ValueForm.TheVariants as value_form
-use Rattle.objects.specs.Contents.{form_of}
+use Rattle.objects.specs.Objects.{form_of, kind_of_value}
 use Rattle.objects.proofs.KindLemmas.{number_of_kind, only_directories, only_queues, only_sets, only_signed}
-use Rattle.objects.specs.Objects.{kind_of_value}
 use Rattle.objects.specs.Entries.{kinds}
 use Rattle.doc_tree.specs.Asked.{declared_by, kind_in, kinds_of, names_of, part}
 use Rattle.doc_tree.specs.Scope.{Numbers, Setting, Table}

@@ -1,6 +1,6 @@
 -- The value that a draft is, with those that it was, by what is kept of it. No public contract names it.
-use Rattle.objects.specs.declared.value.Value.{Value}
-use Rattle.objects.specs.declared.value.Value.TheVariants as value
+use Rattle.objects.specs.declared.kind.Value.{Value}
+use Rattle.objects.specs.declared.kind.Value.TheVariants as value
 use Rattle.drafts.specs.declared.draft.KindDraft.{KindDraft}
 use Rattle.drafts.specs.declared.draft.KindDraft.TheVariants as kept
 use Rattle.drafts.specs.History.{History, seen_as}

@@ -1,5 +1,5 @@
 -- The borrowed value, as it was or as a draft.
-use Rattle.objects.specs.declared.value.Value.{Value}
+use Rattle.objects.specs.declared.kind.Value.{Value}
 use Rattle.drafts.specs.declared.shown.ShownValue.{ShownValue}
 use Rattle.drafts.specs.declared.shown.ShownValue.TheVariants.{Lent, Changed}
 

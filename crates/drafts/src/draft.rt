@@ -1,7 +1,6 @@
 //! Drafts of values of any kind.
 ghost use Rattle.std.specs.Prelude.{◌≡◌, ◌↔◌, IsTrue, Some, IfOk, IfSome, IsSome, IsNone, OnOk, OnErr};
-ghost use Rattle.objects.specs.Objects.{kind_of_value, kind_of_call, one_value, HasRoom, KeepsItems};
-ghost use Rattle.objects.specs.Changes.{value_change};
+ghost use Rattle.objects.specs.Objects.{kind_of_value, kind_of_call, one_value, HasRoom, KeepsItems, value_change};
 ghost use Rattle.drafts.specs.History.{unchanged, changed, undone};
 
 use crate::directory_draft::DirectoryDraft;
@@ -33,8 +32,8 @@ pub struct Draft<'s> {
 }
 
 impl<'s> Model for Draft<'s> {
-    ghost use Rattle.objects.specs.declared.value.Value.{Value as OneValue};
-    ghost use Rattle.objects.specs.contracts.value.Value as one_value_type;
+    ghost use Rattle.objects.specs.declared.kind.Value.{Value as OneValue};
+    ghost use Rattle.objects.specs.contracts.kind.Value as one_value_type;
     ghost use Rattle.std.specs.Coded.{codes};
     ghost use Rattle.drafts.specs.History.{History};
     ghost use Rattle.drafts.specs.Drafts.{drafted};

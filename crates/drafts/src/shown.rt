@@ -1,7 +1,6 @@
 //! Values as a reader sees them: borrowed as they were, or as drafts.
 ghost use Rattle.std.specs.Prelude.{◌≡◌, ◌↔◌, IsTrue, Some, IfOk, IfSome, IsSome, IsNone, OnErr};
-ghost use Rattle.objects.specs.Objects.{kind_of_value, kind_of_call, one_value, HasRoom, KeepsItems};
-ghost use Rattle.objects.specs.Changes.{value_change};
+ghost use Rattle.objects.specs.Objects.{kind_of_value, kind_of_call, one_value, HasRoom, KeepsItems, value_change};
 ghost use Rattle.drafts.specs.Shown.{shown_value};
 
 use crate::Draft;

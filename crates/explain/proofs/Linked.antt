@@ -7,8 +7,8 @@ use Rattle.std.specs.List.{filter}
 use Rattle.std.proofs.lemmas.List.{map-append}
 use Rattle.std.proofs.lemmas.List.Elements.{filter-append}
 use Rattle.objects.specs.declared.entry.Entry.{Entry}
-use Rattle.objects.specs.declared.call.Call.{Call}
-use Rattle.objects.specs.declared.call.Reply.{Reply}
+use Rattle.objects.specs.declared.kind.Call.{Call}
+use Rattle.objects.specs.declared.kind.Reply.{Reply}
 use Rattle.objects.specs.Entries.{State, reply_at}
 use Rattle.meaning.specs.declared.end.End.{End}
 use Rattle.meaning.specs.declared.end.End.TheVariants.{Ended, Aborted}

@@ -3,7 +3,7 @@ use Rattle.std.proofs.Common.{◌≡◌, ◌≢◌, ℕ, zero, suc, List, [], �
 use Rattle.std.proofs.Common.{inl, inr, sym, ap, ◌∙◌, subst}
 use Rattle.std.specs.Prelude.{nat_eq, slice_get, slice_set, option_map, option_and_then, IsSomeAnd, get_or, if◌then◌else◌}
 use Rattle.std.proofs.lemmas.Bool.{eqb-true, eq-eqb}
-use Rattle.objects.specs.declared.value.Value.{Value}
+use Rattle.objects.specs.declared.kind.Value.{Value}
 use Rattle.drafts.specs.History.{History}
 use Rattle.intentions.specs.declared.draft_table.Drafted.{Drafted}
 use Rattle.intentions.specs.DraftTables.{draft_of, drafts_in, IsPut}

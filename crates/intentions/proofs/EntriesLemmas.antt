@@ -4,17 +4,17 @@ use Rattle.std.proofs.Common.{Some, None, get_or}
 use Rattle.std.proofs.lemmas.List.{drop_more}
 use Rattle.std.specs.Prelude.{slice_get}
 use Rattle.objects.specs.Objects.{objects, one_value, kind_of_value, kind_of_call, Fits, ObjectHasRoom}
-use Rattle.objects.specs.declared.value.Value.{Value}
-use Rattle.objects.specs.declared.value.Value.TheVariants.{Account as account_value, Counter as counter_value, Set as set_value}
-use Rattle.objects.specs.declared.value.Value.TheVariants.{Queue as queue_value, Directory as directory_value, Max as max_value}
-use Rattle.objects.specs.declared.call.Call.{Call}
-use Rattle.objects.specs.declared.call.Call.TheVariants.{Account as account_call, Counter as counter_call, Set as set_call}
-use Rattle.objects.specs.declared.call.Call.TheVariants.{Queue as queue_call, Directory as directory_call, Max as max_call}
-use Rattle.objects.specs.declared.call.Reply.{Reply}
+use Rattle.objects.specs.declared.kind.Value.{Value}
+use Rattle.objects.specs.declared.kind.Value.TheVariants.{Account as account_value, Counter as counter_value, Set as set_value}
+use Rattle.objects.specs.declared.kind.Value.TheVariants.{Queue as queue_value, Directory as directory_value, Max as max_value}
+use Rattle.objects.specs.declared.kind.Call.{Call}
+use Rattle.objects.specs.declared.kind.Call.TheVariants.{Account as account_call, Counter as counter_call, Set as set_call}
+use Rattle.objects.specs.declared.kind.Call.TheVariants.{Queue as queue_call, Directory as directory_call, Max as max_call}
+use Rattle.objects.specs.declared.kind.Reply.{Reply}
 use Rattle.objects.specs.declared.entry.Entry.{Entry}
 use Rattle.objects.specs.Entries.{State, kinds, reply_at, after, AreLegal}
 use Rattle.intentions.specs.Levels.{AllHaveRoom}
-use Rattle.objects.proofs.CommuteLemmas.{kinds_agree}
+use Rattle.objects.proofs.KindLemmas.{kinds_agree}
 pub use Rattle.objects.proofs.ListLemmas.{after-append, length-after}
 
 pub legal-append : (values : List Value) (xs ys : List Entry) → AreLegal values xs → AreLegal (after values xs) ys
@@ -46,13 +46,7 @@ legal-fits (v ∷ values) (suc object) c r h = legal-fits values object c r h
 
 -- a value has a reply to each call of its kind
 value_fits : (v : Value) (c : Call) → one_value.reply v c ≡ None → kind_of_value v ≡ kind_of_call c → ⊥
-value_fits (account_value v) (account_call c) misfit same = cc
-value_fits (counter_value v) (counter_call c) misfit same = cc
-value_fits (set_value v) (set_call c) misfit same = cc
-value_fits (queue_value v) (queue_call c) misfit same = cc
-value_fits (directory_value v) (directory_call c) misfit same = cc
-value_fits (max_value v) (max_call c) misfit same = cc
-value_fits v c misfit same = cc
+value_fits v c misfit same = grind arith
 
 -- so has an object
 pub fitting_replies : (state : State) (object : ℕ) (c : Call) → reply_at state object c ≡ None

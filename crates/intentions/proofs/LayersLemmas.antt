@@ -5,8 +5,8 @@ use Rattle.std.specs.Prelude.{nat_eq, slice_get, slice_set, option_map, option_a
 use Rattle.std.proofs.lemmas.List.{take-append-le, drop-append-le, take-take, reverse-append}
 use Rattle.std.proofs.Math.ListN.{drop_of_length-le}
 use Rattle.std.proofs.lemmas.Bool.{eqb-true, eqb-false, eq-eqb}
-use Rattle.objects.specs.declared.value.Value.{Value}
-use Rattle.objects.specs.declared.call.Call.{Call}
+use Rattle.objects.specs.declared.kind.Value.{Value}
+use Rattle.objects.specs.declared.kind.Call.{Call}
 use Rattle.objects.specs.Objects.{objects, one_value, kind_of_value, kind_of_call, HasRoom, Fits, ObjectHasRoom}
 use Rattle.serial.specs.Places.{after_found}
 use Rattle.atoms.proofs.Undoings.{set_itself}

@@ -1,6 +1,6 @@
 -- Drafts by their objects, in a table whose places may be stale. No public contract names it.
 use Rattle.std.specs.Prelude.{◌≡◌, ℕ, nat_eq, List, Option, Some, None, option_map, option_and_then, slice_get, if◌then◌else◌, IsSomeAnd}
-use Rattle.objects.specs.declared.value.Value.{Value}
+use Rattle.objects.specs.declared.kind.Value.{Value}
 use Rattle.drafts.specs.History.{History}
 use Rattle.intentions.specs.Places.{place_in}
 use Rattle.intentions.specs.declared.draft_table.Drafted.{Drafted}

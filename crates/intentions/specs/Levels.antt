@@ -2,7 +2,7 @@
 use Rattle.std.specs.Prelude.{List, [], ◌∷◌, ◌++◌}
 use Rattle.objects.specs.Entries.{after}
 pub use Rattle.objects.specs.Entries.{AllHaveRoom}
-use Rattle.objects.specs.declared.value.Value.{Value}
+use Rattle.objects.specs.declared.kind.Value.{Value}
 use Rattle.objects.specs.declared.entry.Entry.{Entry}
 use Rattle.intentions.specs.declared.view.NetList.{NetList}
 use Rattle.intentions.specs.declared.view.NetList.TheVariants.{Entries, Own}

@@ -1,8 +1,7 @@
 //! The table of drafts: by object, the draft of each object that was changed.
 ghost use Rattle.std.specs.Prelude.{◌≡◌, ◌<◌, ℕ, List, length, None, Some, IsSomeAnd, IfSome, IfOk, IsSome, OnOk, OnErr, unwrap_or, option_and_then};
-ghost use Rattle.objects.specs.Objects.{kind_of_value, kind_of_call, one_value, HasRoom};
-ghost use Rattle.objects.specs.Changes.{value_change};
-ghost use Rattle.objects.specs.declared.value.Value.{Value};
+ghost use Rattle.objects.specs.Objects.{kind_of_value, kind_of_call, one_value, HasRoom, value_change};
+ghost use Rattle.objects.specs.declared.kind.Value.{Value};
 ghost use Rattle.drafts.specs.Shown.{shown_value};
 ghost use Rattle.drafts.specs.History.{unchanged, changed};
 ghost use Rattle.intentions.specs.DraftTables.{drafts_of, draft_at, IsPut, IsPlaceOf};

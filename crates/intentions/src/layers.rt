@@ -4,7 +4,7 @@ ghost use Rattle.drafts.specs.Shown.{shown_value};
 ghost use Rattle.objects.specs.Objects.{objects, Fits, ObjectHasRoom};
 ghost use Rattle.intentions.specs.Levels.{AllHaveRoom};
 ghost use Rattle.objects.specs.Entries.{after, AreLegal};
-ghost use Rattle.objects.specs.declared.value.Value.{Value};
+ghost use Rattle.objects.specs.declared.kind.Value.{Value};
 ghost use Rattle.intentions.specs.DraftTables.{drafts_of};
 ghost use Rattle.intentions.specs.Layers.{States, histories, drafts_rewound};
 
@@ -31,10 +31,10 @@ pub struct Layers<'s> {
 
 impl<'s> Model for Layers<'s> {
     ghost use Rattle.std.specs.Prelude.{List, length, reverse};
-    ghost use Rattle.objects.specs.declared.value.Value.{Value as OneValue};
+    ghost use Rattle.objects.specs.declared.kind.Value.{Value as OneValue};
     ghost use Rattle.std.specs.Coded.{coded_list, coded×, code_by};
     ghost use Rattle.std.proofs.Common.{refl};
-    ghost use Rattle.objects.specs.contracts.value.Value as one_value_type;
+    ghost use Rattle.objects.specs.contracts.kind.Value as one_value_type;
     ghost use Rattle.intentions.specs.Layers.{States};
 
     ghost Value = { States };

@@ -123,11 +123,11 @@ pub struct View<'s> {
 
 impl<'s> Model for View<'s> {
     ghost use Rattle.std.specs.Prelude.{List, reverse};
-    ghost use Rattle.objects.specs.declared.value.Value.{Value as OneValue};
+    ghost use Rattle.objects.specs.declared.kind.Value.{Value as OneValue};
     ghost use Rattle.objects.specs.declared.entry.Entry.{Entry as OneEntry};
     ghost use Rattle.std.specs.Coded.{coded_list, coded×, code_by};
     ghost use Rattle.std.proofs.Common.{refl};
-    ghost use Rattle.objects.specs.contracts.value.Value as one_value_type;
+    ghost use Rattle.objects.specs.contracts.kind.Value as one_value_type;
     ghost use Rattle.objects.specs.contracts.entry.Entry as one_entry_type;
     ghost use Rattle.intentions.specs.Levels.{Intentions, listed_by};
     ghost use Rattle.intentions.specs.Starts.{innermost, around};

@@ -25,7 +25,7 @@ use Rattle.meaning.specs.declared.template.Template.TheVariants as template
 use Rattle.meaning.proofs.Fillings.{filled_law}
 use Rattle.atoms.specs.declared.amount.Amount.{Amount}
 use Rattle.atoms.specs.declared.item.Item.{Item}
-use Rattle.objects.specs.declared.call.Call.{Call}
+use Rattle.objects.specs.declared.kind.Call.{Call}
 use Rattle.batch.specs.Limits.{depth_of_step, nodes_of_step}
 use Rattle.doc_rules.specs.declared.rule.OperandPlace.{OperandPlace}
 use Rattle.doc_rules.specs.declared.rule.OperandPlace.TheVariants.{Third, Fourth}

@@ -15,7 +15,7 @@ use Rattle.atoms.specs.declared.item.Item.{Item}
 use Rattle.objects.specs.declared.kind.Kind.{Kind}
 use Rattle.objects.specs.declared.kind.ValueForm.{ValueForm}
 use Rattle.objects.specs.declared.kind.ValueForm.TheVariants as value_form
-use Rattle.objects.specs.Contents.{content_length, form_of}
+use Rattle.objects.specs.Objects.{content_length, form_of}
 use Rattle.objects.proofs.KindLemmas.{number_held}
 use Rattle.meaning.specs.Trees as tree
 use Rattle.meaning.specs.WellFormed.{content_size, largest, size_of}

@@ -1,9 +1,9 @@
 -- What has its texts keeps them where there are more.
 use Rattle.std.proofs.Common.{◌≤◌, ℕ, List, [], ◌∷◌, length, arith}
 use Rattle.atoms.specs.declared.item.Item.{Item}
-use Rattle.objects.specs.declared.call.Call.{Call}
-use Rattle.objects.specs.declared.value.Value.{Value}
-use Rattle.objects.specs.Contents.{Content, Number, Signed, Set, Queue, Directory, content_of}
+use Rattle.objects.specs.declared.kind.Call.{Call}
+use Rattle.objects.specs.declared.kind.Value.{Value}
+use Rattle.objects.specs.Objects.{Content, Number, Signed, Set, Queue, Directory, content_of}
 use Rattle.vocabulary.specs.Words.{ItemsAre, phrase_of}
 use Rattle.vocabulary.specs.declared.verb.Phrase.{Phrase}
 use Rattle.vocabulary.specs.declared.verb.Phrase.TheVariants.{OfAmount, OfItem, OfPair, Alone}

@@ -13,7 +13,7 @@ use Rattle.atoms.proofs.Items.{alike_is, items_total}
 use Rattle.objects.specs.declared.kind.Kind.{Kind}
 use Rattle.objects.specs.declared.kind.ValueForm.{ValueForm}
 use Rattle.objects.specs.declared.kind.ValueForm.TheVariants as value_form
-use Rattle.objects.specs.Contents.{form_of}
+use Rattle.objects.specs.Objects.{form_of}
 use Rattle.objects.proofs.KindLemmas.{number_held}
 use Rattle.batch.specs.Names.{AreNames, Texts, is_name}
 use Rattle.batch.specs.Named.{AllNamedValues, HasText, IsNamedContent, IsNamedValue}

@@ -4,7 +4,7 @@ use Rattle.std.specs.Prelude.{option_map, slice_get, IsSomeAnd}
 use Rattle.atoms.specs.declared.amount.Amount.{Amount}
 use Rattle.atoms.specs.declared.item.Item.{Item}
 use Rattle.objects.specs.Objects.{kind_of_call}
-use Rattle.objects.specs.declared.call.Call.{Call}
+use Rattle.objects.specs.declared.kind.Call.{Call}
 use Rattle.objects.specs.declared.kind.Kind.{Kind}
 use Rattle.vocabulary.proofs.Words.{amount_phrase, call_has, item_phrase, pair_phrase}
 use Rattle.vocabulary.specs.Words.{HasKind, amount_call, item_call, pair_call, phrase_verb, verb_of}

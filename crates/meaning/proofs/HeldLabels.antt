@@ -1,8 +1,8 @@
 -- What the labels hold that a run adds.
 use Rattle.std.specs.Prelude.{IsTrue, IsSomeAnd, slice_get}
 use Rattle.std.proofs.Common.{◌≡◌, ℕ, zero, suc, List, [], ◌∷◌, ◌++◌, Bool, true, false, Option, Some, None, refl, subst}
-use Rattle.objects.specs.declared.call.Call.{Call}
-use Rattle.objects.specs.declared.call.Reply.{Reply}
+use Rattle.objects.specs.declared.kind.Call.{Call}
+use Rattle.objects.specs.declared.kind.Reply.{Reply}
 use Rattle.meaning.specs.declared.end.End.TheVariants.{Ended, Aborted}
 use Rattle.objects.specs.Entries.{State, reply_at}
 use Rattle.meaning.specs.Trees.{Operation, Fill, If, Subaction, Abort, Parallel, NoChild, Child}

@@ -5,9 +5,9 @@ use Rattle.std.specs.Prelude.{slice_get, slice_index_or}
 use Rattle.serial.specs.Places.{after_found}
 use Rattle.objects.specs.Objects.{kind_of_value, one_value, value_reply as reply_of, value_after, Fits, ObjectHasRoom}
 use Rattle.objects.specs.Objects.{HasRoom as ValueHasRoom}
-use Rattle.objects.specs.declared.value.Value.{Value}
-use Rattle.objects.specs.declared.call.Call.{Call}
-use Rattle.objects.specs.declared.call.Reply.{Reply}
+use Rattle.objects.specs.declared.kind.Value.{Value}
+use Rattle.objects.specs.declared.kind.Call.{Call}
+use Rattle.objects.specs.declared.kind.Reply.{Reply}
 use Rattle.objects.specs.declared.entry.Entry.{Entry}
 use Rattle.meaning.specs.declared.end.End.TheVariants.{Ended, Aborted}
 use Rattle.objects.specs.Entries.{State, kinds, reply_at, after, after_call}

@@ -3,8 +3,8 @@ use Rattle.std.specs.Prelude.{ℕ, Bool, List, Option, Some, None, option_map, s
 use Rattle.std.specs.Option.{option_and_then}
 use Rattle.atoms.specs.declared.amount.Amount.{Amount}
 use Rattle.atoms.specs.declared.item.Item.{Item}
-use Rattle.objects.specs.declared.call.Call.{Call}
-use Rattle.objects.specs.declared.call.Reply.{Reply}
+use Rattle.objects.specs.declared.kind.Call.{Call}
+use Rattle.objects.specs.declared.kind.Reply.{Reply}
 use Rattle.vocabulary.specs.Words.{amount_call, item_call, pair_call, refuses, response_of, response_word, verb_of}
 use Rattle.vocabulary.specs.declared.verb.PairVerb.{PairVerb}
 use Rattle.vocabulary.specs.declared.verb.Verb.{Verb}

@@ -1,7 +1,7 @@
 -- What one thread does with a block, depth first.
 use Rattle.std.specs.Prelude.{ℕ, List, [], ◌∷◌, ◌++◌, Bool, true, false, Option, Some, None, ◌==◌}
-use Rattle.objects.specs.declared.call.Call.{Call}
-use Rattle.objects.specs.declared.call.Reply.{Reply}
+use Rattle.objects.specs.declared.kind.Call.{Call}
+use Rattle.objects.specs.declared.kind.Reply.{Reply}
 use Rattle.meaning.specs.declared.end.End.{End}
 use Rattle.meaning.specs.declared.end.End.TheVariants.{Ended, Aborted}
 use Rattle.objects.specs.Entries.{State, reply_at, after_call}

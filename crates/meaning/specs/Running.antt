@@ -1,10 +1,10 @@
 -- What the run of a well-formed block keeps, and why no call in it lacks room.
 use Rattle.std.specs.Prelude.{◌≡◌, ℕ, ◌+◌, ◌*◌, ◌≤◌, Bool, List, [], ◌∷◌, ◌++◌, length, take, Option, Some, IsTrue, IsSomeAnd, slice_get, ⊤}
 use Rattle.objects.specs.Objects.{one_value, Fits, ObjectHasRoom}
-use Rattle.objects.specs.declared.value.Value.{Value}
+use Rattle.objects.specs.declared.kind.Value.{Value}
 use Rattle.objects.specs.declared.kind.Kind.{Kind}
-use Rattle.objects.specs.declared.call.Reply.{Reply}
-use Rattle.objects.specs.declared.call.Call.{Call}
+use Rattle.objects.specs.declared.kind.Reply.{Reply}
+use Rattle.objects.specs.declared.kind.Call.{Call}
 use Rattle.vocabulary.specs.Words.{has_item, has_number, verb_of}
 use Rattle.vocabulary.specs.declared.verb.Verb.{Verb}
 use Rattle.meaning.specs.declared.template.Argument.{Argument}

@@ -6,10 +6,10 @@ use Rattle.std.specs.FinSet as finite_set
 use Rattle.std.specs.FinMap as finite_map
 use Rattle.atoms.specs.Item.{item_cmp}
 use Rattle.atoms.specs.declared.item.Item.{Item}
-use Rattle.objects.specs.declared.call.Call.{Call}
-use Rattle.objects.specs.declared.call.Reply.{Reply}
-use Rattle.objects.specs.declared.value.Value.{Value}
-use Rattle.objects.specs.Contents.{Content, Number, Signed, Set, Queue, Directory, content_of}
+use Rattle.objects.specs.declared.kind.Call.{Call}
+use Rattle.objects.specs.declared.kind.Reply.{Reply}
+use Rattle.objects.specs.declared.kind.Value.{Value}
+use Rattle.objects.specs.Objects.{Content, Number, Signed, Set, Queue, Directory, content_of}
 use Rattle.vocabulary.specs.Words.{phrase_of, response_of, verb_text, word_text}
 use Rattle.vocabulary.specs.declared.verb.Phrase.{Phrase}
 use Rattle.vocabulary.specs.declared.verb.Phrase.TheVariants as phrase

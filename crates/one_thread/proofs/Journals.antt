@@ -1,10 +1,9 @@
 -- The journal of objects leads back.
 use Rattle.std.proofs.Common.{◌≡◌, ℕ, length}
 use Rattle.atoms.proofs.Journals as journals
-use Rattle.objects.specs.Objects.{objects}
-use Rattle.objects.specs.Changes.{objects_undoing}
-use Rattle.objects.proofs.ChangeLemmas.{objects_take_back}
-use Rattle.objects.specs.declared.call.Call.{Call}
+use Rattle.objects.specs.Objects.{objects, objects_undoing}
+use Rattle.objects.proofs.KindLemmas.{objects_take_back}
+use Rattle.objects.specs.declared.kind.Call.{Call}
 use Rattle.one_thread.specs.Journaled.{Journaled, performed, rewound, LeadsBack}
 
 pub leads_back-same : (j : Journaled) → LeadsBack j j

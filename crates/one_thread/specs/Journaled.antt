@@ -1,10 +1,9 @@
 -- Objects that are changed in place, with a journal of the changes. No public contract names it.
 use Rattle.std.specs.Prelude.{ℕ}
 use Rattle.atoms.specs.Undo as undo
-use Rattle.objects.specs.Objects.{objects}
-use Rattle.objects.specs.Changes.{objects_undoing}
-use Rattle.objects.specs.declared.call.Call.{Call}
-use Rattle.objects.specs.declared.change.Change.{Change}
+use Rattle.objects.specs.Objects.{objects, objects_undoing}
+use Rattle.objects.specs.declared.kind.Call.{Call}
+use Rattle.objects.specs.declared.kind.Change.{Change}
 use Rattle.objects.specs.Entries.{State}
 
 -- a change names its object

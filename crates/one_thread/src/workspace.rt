@@ -3,7 +3,7 @@ ghost use Rattle.std.specs.Prelude.{◌≡◌, ◌≤◌, [], Some, length, drop
 ghost use Rattle.atoms.specs.Undo.{undone_all};
 ghost use Rattle.objects.specs.Entries.{reply_at};
 ghost use Rattle.meaning.specs.Running.{CanPerform};
-ghost use Rattle.objects.specs.Changes.{objects_undoing};
+ghost use Rattle.objects.specs.Objects.{objects_undoing};
 ghost use Rattle.one_thread.specs.Journaled.{performed, rewound};
 
 use objects::{Call, Change, Objects, Reply};
@@ -22,7 +22,7 @@ pub(crate) struct JournaledObjects {
 impl Model for JournaledObjects {
     ghost use Rattle.one_thread.specs.Journaled.{Journaled};
     ghost use Rattle.std.specs.Coded.{codes};
-    ghost use Rattle.objects.specs.contracts.value.Value as one_value_type;
+    ghost use Rattle.objects.specs.contracts.kind.Value as one_value_type;
 
     ghost Value = { Journaled };
 

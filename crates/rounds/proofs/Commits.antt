@@ -3,7 +3,7 @@ use Rattle.std.proofs.Common.{◌≡◌, ℕ, suc, ◌+◌, ◌<◌, List, [], �
 use Rattle.std.proofs.Common.{drop-cons}
 use Rattle.std.proofs.lemmas.List.{drop-map, get_or-drop}
 use Rattle.std.specs.Prelude.{Result, Ok, Err, OnOk}
-use Rattle.objects.specs.declared.value.Value.{Value}
+use Rattle.objects.specs.declared.kind.Value.{Value}
 use Rattle.objects.specs.declared.entry.Entry.{Entry}
 use Rattle.objects.specs.Parts.{CanPerformOn, ArePerformedOn}
 use Rattle.objects.proofs.PartLemmas.{IsOutside, all_performed-outside, can-next, performed-append, performed-none}

@@ -1,7 +1,7 @@
 -- Runs that were made may cross threads. A search that begins without their records meets its bounds.
 use denote.Param.Send.{IsSend, sendable}
 use Rattle.std.proofs.Crossing.{crosses, Box-send, Vec-send}
-use Rattle.objects.proofs.call.Reply.TheSendSync as send_reply
+use Rattle.objects.proofs.kind.Reply.TheSendSync as send_reply
 use Rattle.objects.proofs.entry.Entry.TheSendSync as send_entry
 use Rattle.committed.proofs.marks.MarkedEntry.TheSendSync as send_marked
 use Rattle.meaning.proofs.end.End.TheSendSync as send_end

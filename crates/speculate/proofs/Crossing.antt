@@ -8,7 +8,7 @@ use Rattle.std.specs.contracts.alloc.Global as global
 use Rattle.std.specs.contracts.impls.GlobalAllocator.TheImpl.{ghosts}
 use Rattle.serial.specs.contracts.NoMemory as no_memory
 use Rattle.serial.proofs.NoMemory.TheSendSync as send_no_memory
-use Rattle.objects.proofs.call.Reply.TheSendSync as send_reply
+use Rattle.objects.proofs.kind.Reply.TheSendSync as send_reply
 use Rattle.objects.proofs.entry.Entry.TheSendSync as send_entry
 use Rattle.committed.proofs.marks.MarkedEntry.TheSendSync as send_marked
 use Rattle.meaning.proofs.end.End.TheSendSync as send_end

@@ -25,10 +25,10 @@ use Rattle.atoms.specs.declared.directory.DirectoryReply.TheVariants as director
 use Rattle.atoms.proofs.Items.{alike_is, items_total}
 use Rattle.atoms.specs.declared.amount.Amount.{Amount}
 use Rattle.objects.specs.Objects.{kind_of_call}
-use Rattle.objects.specs.declared.call.Call.{Call}
-use Rattle.objects.specs.declared.call.Call.TheVariants as call
-use Rattle.objects.specs.declared.call.Reply.{Reply}
-use Rattle.objects.specs.declared.call.Reply.TheVariants as reply
+use Rattle.objects.specs.declared.kind.Call.{Call}
+use Rattle.objects.specs.declared.kind.Call.TheVariants as call
+use Rattle.objects.specs.declared.kind.Reply.{Reply}
+use Rattle.objects.specs.declared.kind.Reply.TheVariants as reply
 use Rattle.objects.specs.declared.kind.Kind.{Kind}
 use Rattle.objects.specs.declared.kind.Kind.TheVariants as kind
 use Rattle.vocabulary.specs.declared.word.Word.{Word}

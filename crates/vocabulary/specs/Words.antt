@@ -19,10 +19,10 @@ use Rattle.atoms.specs.declared.max_register.MaxReply.TheVariants as max_reply
 use Rattle.objects.specs.Objects.{kind_of_call}
 use Rattle.objects.specs.declared.kind.Kind.{Kind}
 use Rattle.objects.specs.declared.kind.Kind.TheVariants as kind
-use Rattle.objects.specs.declared.call.Call.{Call}
-use Rattle.objects.specs.declared.call.Call.TheVariants as call
-use Rattle.objects.specs.declared.call.Reply.{Reply}
-use Rattle.objects.specs.declared.call.Reply.TheVariants as reply
+use Rattle.objects.specs.declared.kind.Call.{Call}
+use Rattle.objects.specs.declared.kind.Call.TheVariants as call
+use Rattle.objects.specs.declared.kind.Reply.{Reply}
+use Rattle.objects.specs.declared.kind.Reply.TheVariants as reply
 use Rattle.vocabulary.specs.declared.word.Word.{Word}
 use Rattle.vocabulary.specs.declared.word.Word.TheVariants.{Ok, No, Added, Present, Removed, Absent, Yes, Got, Empty, Bound, Taken, Gone}
 use Rattle.vocabulary.specs.declared.word.Word.TheVariants.{Missing, Found, Committed, Aborted}

@@ -1,6 +1,6 @@
 use Rattle.std.proofs.Common.{◌≡◌, sym, ap, ◌∙◌, None}
 use Rattle.std.specs.Option.{option_copied}
-use Rattle.objects.specs.Contents.{content_length}
+use Rattle.objects.specs.Objects.{content_length}
 use Rattle.batch.specs.Limits.{entries_in}
 use Rattle.carry.specs.Carried.{unfit_after}
 use Rattle.carry.proofs.Walking.{fits_here, unfit_here}

@@ -2,7 +2,7 @@ use Rattle.std.proofs.Common.{[], ◌∷◌, ◌++◌, ap, refl, sym, ◌∙◌,
 use Rattle.std.specs.Prelude.{codes}
 use Rattle.std.specs.Option.{option_copied}
 use Rattle.std.proofs.lemmas.Option.{slice_get-get_or}
-use Rattle.objects.specs.declared.value.Value.TheVariants as value
+use Rattle.objects.specs.declared.kind.Value.TheVariants as value
 use Rattle.batch.specs.Names.{names_of}
 use Rattle.carry.specs.Carried.{object_text, object_texts}
 use Rattle.report.proofs.Joined.{joined_behind-nothing, next_text}

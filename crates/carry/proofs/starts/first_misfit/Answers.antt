@@ -1,7 +1,7 @@
 use Rattle.std.proofs.Common.{◌≡◌, sym, ap, ◌∙◌, None, map}
 use Rattle.std.specs.Prelude.{option_map}
 use Rattle.std.proofs.lemmas.Option.{slice_get-map}
-use Rattle.objects.specs.Contents.{content_length}
+use Rattle.objects.specs.Objects.{content_length}
 use Rattle.batch.specs.Limits.{entries_in}
 use Rattle.carry.specs.Carried.{unfit_after}
 use Rattle.carry.specs.Joined.{start_view, value_of}

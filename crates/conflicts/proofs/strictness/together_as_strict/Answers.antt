@@ -1,5 +1,5 @@
 use Rattle.std.proofs.Common.{ap}
-use Rattle.objects.specs.Tables.{effects_commute, OfSet, OfQueue, OfDirectory}
+use Rattle.objects.specs.Objects.{effects_commute, OfSet, OfQueue, OfDirectory}
 use Rattle.conflicts.proofs.EffectLemmas.{sets_strict, queues_strict, directories_strict, strict_together, as_effects, as_effect}
 use Rattle.conflicts.proofs.strictness.together_as_strict.Goals as goal
 

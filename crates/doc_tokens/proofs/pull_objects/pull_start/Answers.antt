@@ -2,7 +2,7 @@ use Rattle.std.proofs.Common.{◌≡◌, ◌∷◌, ap, sym, subst, ◌∙◌, a
 use Rattle.std.proofs.lemmas.Int.{to_z-of_z}
 use Rattle.json.specs.Token.{Token}
 use Rattle.serde_json.specs.Data.{array}
-use Rattle.objects.specs.declared.value.Value.TheVariants as value
+use Rattle.objects.specs.declared.kind.Value.TheVariants as value
 use Rattle.doc_tree.specs.Scope.{numbers_of}
 use Rattle.doc_tokens.specs.Pulled.{ReadsValue}
 use Rattle.doc_tokens.proofs.ObjectLemmas.{directory_met, directory_spelled, number_met, number_spelled}

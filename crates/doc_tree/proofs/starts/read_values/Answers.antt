@@ -9,7 +9,7 @@ use Rattle.doc_tree.specs.Places.{item_at, object_placed, objects_placed, seek}
 use Rattle.doc_tree.specs.Scope.{Numbers, Table, numbers_of}
 use Rattle.doc_tree.specs.Spelled.{starts_of}
 use Rattle.doc_tree.proofs.ListLemmas.{all_read, in_front, in_front_push, items_from}
-use Rattle.objects.specs.declared.value.Value.{Value as OneValue}
+use Rattle.objects.specs.declared.kind.Value.{Value as OneValue}
 use Rattle.doc_tree.proofs.PlaceLemmas.{found_in, part_met}
 use Rattle.doc_tree.proofs.starts.read_values.Goals as goal
 

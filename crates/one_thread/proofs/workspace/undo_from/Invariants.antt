@@ -1,5 +1,5 @@
 use Rattle.atoms.proofs.Journals.{ArePartUndone}
-use Rattle.objects.specs.Changes.{objects_undoing}
+use Rattle.objects.specs.Objects.{objects_undoing}
 use Rattle.one_thread.proofs.workspace.undo_from.Given as goal
 
 abbrev pub invariant-loop-journal : goal.invariant-loop-journal

@@ -1,9 +1,9 @@
 use Rattle.std.proofs.Common.{◌≡◌, ℕ, zero, suc, List, [], ◌∷◌, Some, refl}
 use Rattle.objects.specs.Objects.{objects, one_value, kind_of_value, kind_of_call, Fits, ObjectHasRoom}
-use Rattle.objects.specs.declared.value.Value.{Value}
-use Rattle.objects.specs.declared.value.Value.TheVariants.{Queue as queue_value}
-use Rattle.objects.specs.declared.call.Call.TheVariants.{Queue as queue_call}
-use Rattle.objects.specs.declared.call.Reply.TheVariants.{Queue as queue_reply}
+use Rattle.objects.specs.declared.kind.Value.{Value}
+use Rattle.objects.specs.declared.kind.Value.TheVariants.{Queue as queue_value}
+use Rattle.objects.specs.declared.kind.Call.TheVariants.{Queue as queue_call}
+use Rattle.objects.specs.declared.kind.Reply.TheVariants.{Queue as queue_reply}
 use Rattle.atoms.specs.declared.item.Item.{Item}
 use Rattle.atoms.specs.declared.queue.QueueCall.TheVariants.{Enq}
 use Rattle.atoms.specs.declared.queue.QueueReply.TheVariants.{Ok}

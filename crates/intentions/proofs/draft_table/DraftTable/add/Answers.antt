@@ -1,7 +1,7 @@
 use Rattle.std.proofs.Common.{◌∷◌, ◌++◌, [], Some, cond, length, subst, ap, ◌∙◌}
 use Rattle.std.specs.Prelude.{nat_eq, option_and_then, slice_get}
 use Rattle.drafts.specs.History.{History, unchanged}
-use Rattle.objects.specs.declared.value.Value.{Value}
+use Rattle.objects.specs.declared.kind.Value.{Value}
 use Rattle.intentions.specs.DraftTables.{draft_of, drafts_in}
 use Rattle.intentions.specs.Places.{IsReached, place_in}
 use Rattle.intentions.proofs.DraftTableLemmas.{drafted, placed_at, put-last, reached}

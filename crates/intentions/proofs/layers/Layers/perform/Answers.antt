@@ -4,8 +4,7 @@ use Rattle.std.proofs.lemmas.List.{nil_from_length}
 use Rattle.std.proofs.lemmas.Result.{IfOk-weaker, on_err_weaker}
 use Rattle.std.specs.Prelude.{vec_len, slice_get, IsSomeAnd, IfSome, IsSome, unwrap_or}
 use Rattle.std.specs.Option.{option_and_then}
-use Rattle.objects.specs.Objects.{one_value, kind_of_value, kind_of_call, HasRoom}
-use Rattle.objects.specs.Changes.{value_change}
+use Rattle.objects.specs.Objects.{one_value, kind_of_value, kind_of_call, HasRoom, value_change}
 use Rattle.drafts.specs.Shown.{shown_value}
 use Rattle.drafts.specs.History.{unchanged, changed}
 use Rattle.committed.proofs.ListsLemmas.{on_err}

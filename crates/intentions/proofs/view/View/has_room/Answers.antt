@@ -1,7 +1,7 @@
 use Rattle.std.proofs.Common.{◌≡◌, Some, None, sym, ap, ◌∙◌, subst}
 use Rattle.std.specs.Prelude.{slice_get, IsSomeAnd, IfSome}
 use Rattle.objects.specs.Objects.{kind_of_value, kind_of_call, HasRoom}
-use Rattle.objects.specs.declared.value.Value.{Value}
+use Rattle.objects.specs.declared.kind.Value.{Value}
 use Rattle.drafts.specs.Shown.{shown_value}
 use Rattle.intentions.specs.Levels.{shown_values}
 use Rattle.intentions.proofs.ViewLemmas.{same_shown}
