@@ -1,13 +1,6 @@
 -- Blocks whose items and reasons keep their numbers stay as they are.
 use Rattle.std.proofs.Common.{◌≡◌, ℕ, List, [], ◌∷◌, map, Option, None, Some, refl, ap}
 use Rattle.objects.specs.declared.kind.Call.{Call}
-use Rattle.objects.specs.declared.kind.Call.TheVariants as call
-use Rattle.atoms.specs.declared.account.AccountCall.TheVariants as account
-use Rattle.atoms.specs.declared.counter.CounterCall.TheVariants as counter
-use Rattle.atoms.specs.declared.item_set.SetCall.TheVariants as set
-use Rattle.atoms.specs.declared.queue.QueueCall.TheVariants as queue
-use Rattle.atoms.specs.declared.directory.DirectoryCall.TheVariants as directory
-use Rattle.atoms.specs.declared.max_register.MaxCall.TheVariants as max
 use Rattle.meaning.specs.declared.template.Argument.{Argument}
 use Rattle.meaning.specs.declared.template.Argument.TheVariants as argument
 use Rattle.meaning.specs.declared.template.Refusal.{Refusal}

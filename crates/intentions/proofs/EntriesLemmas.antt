@@ -5,11 +5,7 @@ use Rattle.std.proofs.lemmas.List.{drop_more}
 use Rattle.std.specs.Prelude.{slice_get}
 use Rattle.objects.specs.Objects.{objects, one_value, kind_of_value, kind_of_call, Fits, ObjectHasRoom}
 use Rattle.objects.specs.declared.kind.Value.{Value}
-use Rattle.objects.specs.declared.kind.Value.TheVariants.{Account as account_value, Counter as counter_value, Set as set_value}
-use Rattle.objects.specs.declared.kind.Value.TheVariants.{Queue as queue_value, Directory as directory_value, Max as max_value}
 use Rattle.objects.specs.declared.kind.Call.{Call}
-use Rattle.objects.specs.declared.kind.Call.TheVariants.{Account as account_call, Counter as counter_call, Set as set_call}
-use Rattle.objects.specs.declared.kind.Call.TheVariants.{Queue as queue_call, Directory as directory_call, Max as max_call}
 use Rattle.objects.specs.declared.kind.Reply.{Reply}
 use Rattle.objects.specs.declared.entry.Entry.{Entry}
 use Rattle.objects.specs.Entries.{State, kinds, reply_at, after, AreLegal}
