@@ -1,9 +1,9 @@
 -- The order of items is total, and items in the same place of it are one.
 use Rattle.std.specs.Prelude.{◌≡◌, ℕ, true, false}
-use Rattle.std.proofs.Common.{nat_eq, ap}
+use Rattle.std.proofs.Common.{ap}
 use Rattle.std.specs.Cmp.{IsTotalOrder, nat_cmp_total, eq_by_cmp_equiv, Equal-is}
 use Rattle.std.specs.Ordering.{eq_by_cmp}
-use Rattle.std.proofs.lemmas.Bool.{eqb-true, false_from_ne_true}
+use Rattle.std.proofs.lemmas.Bool.{false_from_ne_true}
 use Rattle.std.proofs.lemmas.Cmp.{on_total}
 use Rattle.std.specs.FinMap.{IsAntisymmetric, nat_cmp-IsAntisymmetric}
 use Rattle.atoms.specs.Item.{item_cmp}
@@ -11,9 +11,6 @@ use Rattle.atoms.specs.declared.item.Item.{Item}
 
 pub one_item : (x y : Item) → x.0 ≡ y.0 → x ≡ y
 one_item x y e = ap (λ (n : ℕ). let item : Item = record { 0 = n } in item) e
-
-pub same_item : (x y : Item) → nat_eq x.0 y.0 ≡ true → x ≡ y
-same_item x y h = one_item x y (eqb-true x.0 y.0 h)
 
 pub items_total : IsTotalOrder item_cmp
 items_total = on_total (λ (x : Item). x.0) nat_cmp_total
