@@ -62,7 +62,7 @@ use Rattle.doc_tree.proofs.Demands.{Asks, array_asked, block_asked, block_asked_
 use Rattle.doc_tree.proofs.Demands.{members_asked, parallel_asked, step_asked, step_asked_by, steps_asked, sub_asked, transaction_asked}
 use Rattle.doc_tree.proofs.Demands.{transactions_asked}
 use Rattle.doc_tree.proofs.MetLemmas.{What, count}
-use Rattle.lang.proofs.Faultless.{if_shape_counts, parallel_shape_counts, seen_counts}
+use Rattle.lang.proofs.PartCounts.{if_shape_counts, parallel_shape_counts, seen_counts}
 use Rattle.carry_laws.proofs.Meeting.{Counts}
 
 -- What the one setting declares, the other declares at the same places, and it may have what the one may.

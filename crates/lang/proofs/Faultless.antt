@@ -13,21 +13,12 @@ use Rattle.meaning.specs.Trees as tree
 use Rattle.meaning.specs.Trees.{Handlers, Children, for_reasons, handlers_of}
 use Rattle.meaning.specs.WellFormed as well
 use Rattle.meaning.specs.Filling.{template_verb}
-use Rattle.doc_rules.specs.Subjects.{fits_item, fits_number}
-use Rattle.doc_rules.specs.declared.rule.ArgumentRule.TheVariants.{Amount}
-use Rattle.doc_rules.specs.declared.rule.NameRule.{NameRule}
 use Rattle.doc_rules.specs.declared.rule.NameRule.TheVariants as names
-use Rattle.doc_rules.specs.declared.rule.OperandPlace.{OperandPlace}
-use Rattle.doc_rules.specs.declared.rule.OperandPlace.TheVariants.{Third, Fourth}
-use Rattle.doc_rules.specs.declared.rule.Rule.TheVariants.{Argument}
-use Rattle.doc_rules.specs.declared.rule.SourceRule.TheVariants.{Number, Item as HasItem}
 use Rattle.meaning.specs.WellFormed.{Label, OfVerb, OfSubaction, VerbFits, IsWellFormed, IsWellFormedStep, AreWellFormed}
 use Rattle.meaning.specs.WellFormed.{AreWellFormedHandlers}
 use Rattle.meaning.specs.WellFormed.{added_by, added_if, added_by_children}
 use Rattle.batch.specs.Limits as limits
 use Rattle.batch.specs.Views.{Tried, steps_of, children_of}
-use Rattle.vocabulary.specs.declared.verb.Verb.{Verb}
-use Rattle.vocabulary.specs.declared.verb.Verb.TheVariants.{OfAmount, OfItem, OfPair, Alone}
 use Rattle.doc_rules.specs.declared.subject.Subject.{Subject}
 use Rattle.doc_rules.specs.declared.subject.Subject.TheVariants.{Reply, Outcome}
 use Rattle.doc_tree.specs.Demand.{Demand, holds, one_more_operation, one_more_node}
@@ -38,8 +29,8 @@ use Rattle.doc_rules.specs.Subjects.{fits_word}
 use Rattle.vocabulary.specs.Words.{word_of_text}
 use Rattle.doc_tree.specs.Asked
 use Rattle.doc_tree.specs.Asked.{part, label_in, object_of, call_named, verb_in, target_asked, operation_asked, operation_shape_asked}
-use Rattle.doc_tree.specs.Asked.{argument_asked, arguments_asked, amount_asked, amount_item, else_reason, index_of, is_source, item_asked}
-use Rattle.doc_tree.specs.Asked.{label_asked, source_asked}
+use Rattle.doc_tree.specs.Asked.{arguments_asked, else_reason}
+use Rattle.doc_tree.specs.Asked.{label_asked}
 use Rattle.doc_tree.specs.Spelled.{operation_of, refusal_of, target_of, template_of}
 use Rattle.doc_tree.proofs.MetLemmas.{AllMet, What, count, count-append, first_met, rest_met}
 use Rattle.doc_tree.proofs.LabelLemmas.{is_named-append}
@@ -60,6 +51,8 @@ use Rattle.lang.proofs.Bound.{AreSeen, arguments_fit, bound, fits, some_of, step
 use Rattle.lang.proofs.Bound.{verb_is}
 use Rattle.doc_tree.proofs.Demands.{array_asked, block_asked, block_asked_if, children_asked, handlers_asked, if_asked, member_asked}
 use Rattle.doc_tree.proofs.Demands.{members_asked, parallel_asked, step_asked, step_asked_by, steps_asked, sub_asked}
+use Rattle.lang.proofs.PartCounts.{count_three, count_six, if_shape_counts, seen_counts, test_counts, sub_shape_counts, label_counts}
+use Rattle.lang.proofs.PartCounts.{operation_shape_counts, target_counts, arguments_count, parallel_shape_counts, reason_counts}
 
 -- ---- what is known of a part: over objects of these kinds, with these labels, within so many levels, and what it counts
 
@@ -101,91 +94,6 @@ counted ds = count What.operations ds + count What.nodes ds
 
 abbrev pub most_labels : ℕ
 most_labels = 4_000_000_000
-
--- ---- lists of demands in parts
-
-count_three : (x : What) (A B C : List Demand) → count x (A ++ B ++ C) ≡ count x A + count x B + count x C
-count_three x A B C = simp count-append
-
-count_five : (x : What) (A B C D E : List Demand) → count x (A ++ B ++ C ++ D ++ E) ≡ count x A + count x B + count x C + count x D + count
-    x E
-count_five x A B C D E = simp count-append
-
-count_six : (x : What) (A B C D E F : List Demand) → count x (A ++ B ++ C ++ D ++ E ++ F) ≡ count x A + count x B + count x C + count x D
-    + count x E + count x F
-count_six x A B C D E F = simp count-append
-
--- ---- parts that count nothing
-
-pub if_shape_counts : (x : What) (d : Data) → count x (if_shape_asked d) ≡ 0
-unfolding if_shape_asked
-if_shape_counts x d = refl
-
-pub seen_counts : (x : What) (scope : Scope) (name : List ℕ) → count x (seen_asked scope name) ≡ 0
-unfolding seen_asked
-seen_counts x scope name = refl
-
-one_of_three : (x : What) (a b : Bool) (A B C : List Demand) → count x A ≡ 0 → count x B ≡ 0 → count x C ≡ 0
-    → count x (cond a A (cond b B C)) ≡ 0
-one_of_three x true b A B C p q r = p
-one_of_three x false true A B C p q r = q
-one_of_three x false false A B C p q r = r
-
-pub test_counts : (x : What) (version : ℕ) (subject : Subject) (d : Data) → count x (test_asked version subject d) ≡ 0
-unfolding test_asked
-test_counts x version subject d = one_of_three x (has (codes "is") d) (has (codes "atleast") d) (holds_word subject d)
-    (holds_number subject d) (holds_item version subject d) refl refl refl
-
-pub sub_shape_counts : (x : What) (version : ℕ) (d : Data) → count x (sub_shape_asked version d) ≡ 0
-unfolding sub_shape_asked
-sub_shape_counts x version d = refl
-
-pub label_counts : (x : What) (version : ℕ) (scope earlier : Scope) (o : Option (List ℕ))
-    → count x (label_asked version scope earlier o) ≡ 0
-unfolding label_asked
-label_counts x version scope earlier None = refl
-label_counts x version scope earlier (Some name) = refl
-
-pub operation_shape_counts : (x : What) (version : ℕ) (d : Data) → count x (operation_shape_asked version d) ≡ 0
-unfolding operation_shape_asked
-operation_shape_counts x version d = refl
-
-target_counts : (x : What) (setting : Setting) (object call : List ℕ) → count x (target_asked setting object call) ≡ 0
-unfolding target_asked
-target_counts x setting object call = refl
-
-one_of_two : (x : What) (b : Bool) (A B : List Demand) → count x A ≡ 0 → count x B ≡ 0 → count x (cond b A B) ≡ 0
-one_of_two x true A B p q = p
-one_of_two x false A B p q = q
-
-argument_counts : (x : What) (version : ℕ) (scope : Scope) (place : OperandPlace) (op : Data)
-    → count x (argument_asked version scope place op) ≡ 0
-unfolding argument_asked source_asked item_asked
-argument_counts x version scope place op =
-    one_of_two x (is_source version (index_of place) op) (source_asked scope fits_item HasItem place op) (item_asked version place op)
-    refl refl
-
-pub arguments_count : (x : What) (version : ℕ) (scope : Scope) (v : Verb) (op : Data) → count x (arguments_asked version scope v op) ≡ 0
-unfolding arguments_asked amount_asked source_asked
-arguments_count x version scope (OfAmount v) op =
-    let none = one_of_two x (is_source version 2 op) (source_asked scope fits_number Number Third op)
-    (holds (is_some (amount_item 2 op)) (Argument Amount) ∷ []) refl refl in
-    omega (arith, none)
-arguments_count x version scope (OfItem v) op = omega (arith, argument_counts x version scope Third op)
-arguments_count x version scope (OfPair v) op =
-    let A = argument_asked version scope Third op in
-    let B = argument_asked version scope Fourth op in
-    omega (arith, count-append x A B, argument_counts x version scope Third op, argument_counts x version scope Fourth op)
-arguments_count x version scope (Alone v) op = refl
-
-pub parallel_shape_counts : (x : What) (d : Data) → count x (parallel_shape_asked d) ≡ 0
-unfolding parallel_shape_asked
-parallel_shape_counts x d = refl
-
-pub reason_counts : (x : What) (version : ℕ) (which : NameRule) (o : Option (List ℕ)) → count x (reason_asked version which o) ≡ 0
-unfolding reason_asked
-reason_counts x version which None = refl
-reason_counts x version which (Some reason) = refl
 
 -- ---- labels after a step
 
