@@ -13,8 +13,8 @@ use crate::counts::Counts;
 use crate::hashing::Labels;
 use crate::labels::found_label;
 use crate::look::{count, has, has_only, text_item, text_member, whole_item};
+use crate::reasons::read_reason;
 use crate::state::{Numbering, ReaderState, number_of_item};
-use crate::steps::read_reason;
 use atoms::{Amount, Item};
 use batch::is_name;
 use doc_rules::{

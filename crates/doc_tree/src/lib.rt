@@ -15,6 +15,7 @@ pub mod look;
 pub mod numbers;
 pub mod operations;
 mod outlines;
+pub mod reasons;
 pub mod starts;
 pub mod state;
 pub mod steps;

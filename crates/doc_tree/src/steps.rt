@@ -1,31 +1,31 @@
 //! Reads the steps of a transaction.
-ghost use Rattle.std.specs.Prelude.{◌≡◌, ◌≢◌, ◌≤◌, [], length, map, codes, option_map, true, false, nat_le, None, Some, unwrap_or, IfErr, IfOk, MatchResult, OnOk};
+ghost use Rattle.std.specs.Prelude.{◌≡◌, ◌≤◌, [], length, map, codes, option_map, true, false, nat_le, None, Some, unwrap_or, IfErr, IfOk, MatchResult, OnOk};
 ghost use Rattle.serde_json.specs.Find.{as_str};
 ghost use Rattle.serde_json.specs.View.{items_view, members_view, view};
 ghost use Rattle.meaning.specs.Trees.{for_reasons, handlers_of};
-ghost use Rattle.batch.specs.Names.{is_name, texts_of};
 ghost use Rattle.batch.specs.Views.{block_view, handler_view, otherwise_view, step_view, subaction_view};
 ghost use Rattle.doc_tree.specs.Answer.{AreMet, IsFirst, IsFound, IsMet};
-ghost use Rattle.doc_tree.specs.Asked.{abort_asked, abort_shape_asked, children_in, handlers_are_members, handlers_in, is_abort, label_in, labels_of, parallel_shape_asked, part, reason_asked, scope_after, sort_of, sub_shape_asked};
+ghost use Rattle.doc_tree.specs.Asked.{abort_asked, abort_shape_asked, children_in, handlers_are_members, handlers_in, is_abort, label_in, labels_of, parallel_shape_asked, part, scope_after, sort_of, sub_shape_asked};
 ghost use Rattle.doc_tree.specs.Demand.{broken_at};
 ghost use Rattle.doc_rules.specs.Limits.{limits_of};
 ghost use Rattle.doc_tree.specs.Places.{block_placed, block_placed_if, children_placed, handlers_placed, if_placed, inside, member_named, member_placed, members_placed, nothing, parallel_placed, step_placed, steps_placed, sub_placed, transaction_placed, transactions_placed};
-ghost use Rattle.doc_tree.specs.Scope.{Extends, number_of, numbers_of, scope_of, setting_of, with_label, with_labels, with_text};
-ghost use Rattle.doc_tree.specs.Spelled.{abort_of, block_of, block_of_if, blocks_of, children_spelled, handlers_spelled, if_of, member_of, members_of, parallel_of, reason_of, spelled_map, step_of, steps_spelled, sub_of, sub_step};
+ghost use Rattle.doc_tree.specs.Scope.{Extends, numbers_of, scope_of, setting_of, with_label, with_labels};
+ghost use Rattle.doc_tree.specs.Spelled.{abort_of, block_of, block_of_if, blocks_of, children_spelled, handlers_spelled, if_of, member_of, members_of, parallel_of, spelled_map, step_of, steps_spelled, sub_of, sub_step};
 ghost use Rattle.meaning.specs.declared.limits.TheConstants.{MAX_DEPTH};
 
 use crate::counts::Counts;
 use crate::declared::Declared;
-use crate::hashing::{Labels, TextSet};
+use crate::hashing::Labels;
 use crate::heads::{
     if_head, if_step, no_labels, parallel_head, parallel_step, sub_head, sub_step, subaction_of,
 };
 use crate::labels::{add_label, label_of, leave_block};
 use crate::look::{has, has_only, list_member, text_member};
 use crate::operations::read_operation;
-use crate::state::{ReaderState, number_of};
+use crate::reasons::{read_reason, reason_number};
+use crate::state::ReaderState;
 use crate::unmet::Unmet;
-use batch::{Block, Handler, Otherwise, Step, Subaction, is_name};
+use batch::{Block, Handler, Otherwise, Step, Subaction};
 use doc_rules::{Failure, Form, NameRule, Rule, ShapeRule, Subject};
 use meaning::limits::MAX_DEPTH;
 use serde_json::{Map, Value};
@@ -79,56 +79,6 @@ fn is_abort(version: u8, value: &Value) -> bool
     ensures { result ≡ is_abort version (view value.now) }
 {
     value.as_bool() == Some(true) || has_reasons(version) && value.is_string()
-}
-
-/// The number of a reason, which by a rule is a name, and joins the others if it is new.
-pub fn reason_number(
-    alloc: Global,
-    reason: &str,
-    version: u8,
-    rule: NameRule,
-    counts: &Counts,
-    reasons: &mut TextSet,
-) -> Result<u32, Failure>
-    ensures met { OnOk result (is_name version reason.now ≡ true) }
-    ensures first { IfErr result (λ failure. failure ≢ Failure.NoMemory
-        → (is_name version reason.now ≡ false)
-        × (failure ≡ broken_at (Rule.Name version rule) counts.now)) }
-    ensures number { IfOk result (λ number. number
-        ≡ number_of reason.now (texts_of reasons.old.keys)) }
-    ensures table { OnOk result (texts_of reasons.new.keys
-        ≡ with_text reason.now (texts_of reasons.old.keys)) }
-{
-    counts.demand(is_name(version, reason), Rule::Name(version, rule))?;
-    let number = number_of(alloc, reasons, reason)?;
-    Ok(number)
-}
-
-/// The reason's number, where there is a reason: it has to be a name, by this rule.
-#[tactic(auto, unfolding(crate::specs::Asked::reason_asked, crate::specs::Spelled::reason_of))]
-pub fn read_reason(
-    alloc: Global,
-    reason: Option<&str>,
-    version: u8,
-    rule: NameRule,
-    state: &mut ReaderState,
-) -> Result<Option<u32>, Failure>
-    ensures met { OnOk result (IsMet state.old.counts
-        (reason_asked version rule (option_map (λ text. text.now) reason.entry))
-        state.new.counts) }
-    ensures first { IfErr result (IsFirst state.old.counts
-        (reason_asked version rule (option_map (λ text. text.now) reason.entry))) }
-    ensures value { IfOk result (λ number. (number, numbers_of state.new.numbering)
-        ≡ reason_of (numbers_of state.old.numbering) (option_map (λ text. text.now) reason.entry)) }
-    ensures labels { OnOk result (scope_of state.new.labels.entries
-        ≡ scope_of state.old.labels.entries) }
-{
-    let Some(name) = reason else {
-        return Ok(None);
-    };
-    let reasons = &mut state.numbering.reasons;
-    let number = reason_number(alloc, name, version, rule, &state.counts, reasons)?;
-    Ok(Some(number))
 }
 
 #[tactic(auto, using(crate::proofs::Checks::parts), unfolding(crate::specs::Asked::abort_shape_asked))]
