@@ -1,5 +1,5 @@
 -- Blocks whose items and reasons keep their numbers stay as they are.
-use Rattle.std.proofs.Common.{◌≡◌, ℕ, List, [], ◌∷◌, map, Option, None, Some, refl, ap}
+use Rattle.std.proofs.Common.{◌≡◌, ℕ, List, [], ◌∷◌, map, Option, None, Some, refl, ap, arith}
 use Rattle.objects.specs.declared.kind.Call.{Call}
 use Rattle.meaning.specs.declared.template.Argument.{Argument}
 use Rattle.meaning.specs.declared.template.Argument.TheVariants as argument
