@@ -9,6 +9,9 @@ pub mod PulledDocument
 pub mod PulledHandlers
 pub mod PassLemmas
 pub mod NoteLemmas
+pub mod CountLemmas
+pub mod LengthLemmas
+pub mod NoListLemmas
 pub mod LongerLemmas
 pub mod RangeLemmas
 pub mod HeldLemmas

@@ -3,6 +3,7 @@
 #![tactic(auto)]
 
 mod digits;
+pub mod members;
 pub mod notes;
 pub mod pass;
 pub mod pull;

@@ -1,5 +1,5 @@
 -- Values that are no arrays, by their first token.
-use Rattle.std.proofs.Common.{◌≡◌, ◌≢◌, ℕ, List, ◌∷◌, Option, None, Some, option_and_then, option_map, refl, sym, ap, ◌∙◌, arith}
+use Rattle.std.proofs.Common.{◌≡◌, ◌≢◌, ℕ, List, ◌∷◌, Option, None, Some, option_and_then, option_map, refl, sym, ap, ◌∙◌}
 use Rattle.json.specs.Token as token
 use Rattle.json.specs.Json as json
 use Rattle.json.specs.Json.{Parse, parse_map, value_with}
@@ -10,7 +10,6 @@ use Rattle.json.proofs.Grammar.{value_is}
 use Rattle.serde_json.specs.Data.{Data, Items, Members, Num, number, object}
 use Rattle.serde_json.specs.Find.{as_array}
 use Rattle.serde_json.specs.Read.{converted, number_of, of_json}
-use Rattle.doc_tokens.specs.Pulled.{ReadsValue}
 use Rattle.doc_tokens.proofs.PulledLemmas.{of_object}
 
 -- the items of what was read, where it is an array
@@ -43,8 +42,7 @@ first_no_list a o Null ts other = refl
 first_no_list a o Bad ts other = refl
 
 -- a value is no array where its first token isn't the bracket that begins one
-pub no_list : (k : ℕ) (t : Token) (ts : List token.Token) (d : Data) (new : List token.Token) → t ≢ BeginArray
-    → ReadsValue k (token_of t ∷ ts) d new → as_array d ≡ None
-no_list k t ts d new other reads =
-    sym (ap list_in (reads k (omega arith))) ∙ ap (λ r. list_in (converted of_json r)) (value_is k (token_of t ∷ ts))
-    ∙ first_no_list _ _ t ts other
+pub no_list : (k : ℕ) (t : Token) (ts new : List token.Token) (d : Data) → t ≢ BeginArray
+    → converted of_json (json.value k (token_of t ∷ ts)) ≡ Some (d, new) → as_array d ≡ None
+no_list k t ts new d other reads =
+    sym (ap list_in reads) ∙ ap (λ r. list_in (converted of_json r)) (value_is k (token_of t ∷ ts)) ∙ first_no_list _ _ t ts other

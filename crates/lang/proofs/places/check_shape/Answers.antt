@@ -17,7 +17,7 @@ use Rattle.doc_rules.specs.declared.form.Form.TheVariants as form
 use Rattle.doc_tree.specs.Look.{has_only, list_member}
 use Rattle.doc_tree.proofs.Checks.{passed_on}
 use Rattle.lang.proofs.ShapeLemmas.{many_objects, many_transactions, no_objects, no_transactions, no_version, other_part, shape_met}
-use Rattle.lang.proofs.document.shape_of.Goals as goal
+use Rattle.lang.proofs.places.check_shape.Goals as goal
 
 -- the members that are looked for are those of the form
 abbrev of_form : {names : List (List ℕ)} (d : Data) → names ≡ member_names form.Document
@@ -113,12 +113,3 @@ returns-clause-met c =
     ∙ c.in_ok-demand-2.ensures)
     (transactions_counted _ _ d _ known c.in-Some-list_member-2.ensures (c.len-2.ensures ∙ c.in-Some-list_member-2.transactions.now.ok.0)
     ∙ c.in_ok-demand-3.ensures)
-
-pub returns-clause-version : goal.returns-clause-version
-returns-clause-version c = ap (λ version. unwrap_or version 1) c.in-Some.ensures
-
-pub returns-clause-objects : goal.returns-clause-objects
-returns-clause-objects c = ap or_no_items c.in-Some-list_member.ensures
-
-pub returns-clause-transactions : goal.returns-clause-transactions
-returns-clause-transactions c = ap or_no_items c.in-Some-list_member-2.ensures
