@@ -1,6 +1,6 @@
 -- How often a name comes among members, and its last one.
 use Rattle.std.proofs.Common.{◌≡◌, ◌≢◌, ◌<◌, ◌≤◌, ◌+◌, ◌-◌, ℕ, zero, suc, List, [], ◌∷◌, length, Bool, true, false, Option, None, Some}
-use Rattle.std.proofs.Common.{refl, sym, subst, ap, ◌∙◌, arith, lt-ltb, option_and_then, option_map, true≢false}
+use Rattle.std.proofs.Common.{refl, sym, subst, ap, ◌∙◌, arith, lt-ltb, option_and_then, option_map}
 use Rattle.std.specs.Prelude.{codes}
 use Rattle.std.specs.Str.{bytes_eq}
 use Rattle.std.proofs.lemmas.Slice.Eq.{bytes_eq-Decides}
@@ -12,9 +12,8 @@ use Rattle.json.specs.declared.token.Token.TheVariants as lent
 use Rattle.json.specs.Json.{Parse, items, members, parse_map, read_key, value}
 use Rattle.json.proofs.Grammar.{left, members_end, members_more, members_no_key, read_key-shorter, skip_value-shorter, value_is}
 use Rattle.serde_json.specs.Data.{Data, Items, Members, array, no_members, object, put}
-use Rattle.doc_tree.specs.Asked.{or_no_items}
-use Rattle.serde_json.specs.Find.{as_array, get_member}
-use Rattle.serde_json.specs.Read.{converted, of_items, of_json, of_members}
+use Rattle.serde_json.specs.Find.{get_member}
+use Rattle.serde_json.specs.Read.{converted, of_json, of_members}
 use Rattle.serde_json.proofs.Views.{get_member-put, get_member-put_other}
 use Rattle.doc_tree.specs.Scope.{fit}
 use Rattle.doc_tokens.specs.Passed.{AreCounted, AreTimes, HasLeft, HasMembers, once, times}

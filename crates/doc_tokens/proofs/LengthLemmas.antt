@@ -1,5 +1,5 @@
 -- A text has hardly more tokens than bytes.
-use Rattle.std.proofs.Common.{◌≡◌, ◌≤◌, ◌+◌, ℕ, List, [], ◌∷◌, length, Bool, true, false, cond, arith}
+use Rattle.std.proofs.Common.{◌≤◌, ◌+◌, ℕ, List, [], ◌∷◌, length, Bool, true, false, arith}
 use Rattle.json.specs.Lex.{Class, Lexeme, Mode, Place, between, in_word, in_string, in_escape, quote, backslash, operator, space, other}
 use Rattle.json.specs.Lex.{class, lex, lex_byte, place_token, punctuate, if_allowed, fresh, after_value, after_comma, after_key, begins_colon}
 use Rattle.json.specs.Lex.{comma, colon, token, tokens}

@@ -14,7 +14,9 @@ ghost use Rattle.doc_tree.specs.Spelled.{abort_of, block_of, block_of_if, childr
 use crate::counts::Counts;
 use crate::declared::Declared;
 use crate::hashing::Labels;
-use crate::heads::{if_head, if_step, no_labels, parallel_head, parallel_step, sub_head, sub_step, subaction_of};
+use crate::heads::{
+    if_head, if_step, no_labels, parallel_head, parallel_step, sub_head, sub_step, subaction_of,
+};
 use crate::labels::{add_label, label_of, leave_block};
 use crate::look::{has, has_only, list_member, text_member};
 use crate::operations::read_operation;

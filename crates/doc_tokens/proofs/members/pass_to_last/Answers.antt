@@ -1,5 +1,5 @@
-use Rattle.std.proofs.Common.{◌≡◌, ◌+◌, ℕ, Some, None, refl, sym, subst, ap, ◌∙◌, arith}
-use Rattle.json.specs.Json.{read_key, value}
+use Rattle.std.proofs.Common.{◌≡◌, ◌+◌, ℕ, Some, None, sym, arith}
+use Rattle.json.specs.Json.{read_key}
 use Rattle.json.proofs.Grammar.{read_key-shorter}
 use Rattle.serde_json.specs.Data.{no_members}
 use Rattle.doc_tokens.specs.Passed.{once}
@@ -61,12 +61,12 @@ members-preserved c ms v left is =
     let done = c.in_ok-pass_value.ensures.ok in
     let more = λ (n : ℕ) (some : l.left ≡ once k name + n). more_left name l.left now.0 ms l.reader s k named now.1 done.0 c.pass_value.new.reader done.1 n some in
     elim c.if-eq.branch [
-      then-eq+else-left-le1 w ↦
-        let one = once_here k name (sym w.if-eq.ensures) in
-        let later = more c.if-eq.left (omega (arith, one, w.left-is, w.if-left-le1.false)) in
-        (later.0, later.1, omega (arith, w.left-is, w.if-left-le1.false))
-    | else-eq w ↦
-        let none = once_other k name (sym w.if-eq.ensures) in
-        let later = more c.if-eq.left (omega (arith, none, w.left-is)) in
-        (later.0, later.1, omega (arith, w.left-is, now.2))
+      | then-eq+else-left-le1 w ↦
+          let one = once_here k name (sym w.if-eq.ensures) in
+          let later = more c.if-eq.left (omega (arith, one, w.left-is, w.if-left-le1.false)) in
+          (later.0, later.1, omega (arith, w.left-is, w.if-left-le1.false))
+      | else-eq w ↦
+          let none = once_other k name (sym w.if-eq.ensures) in
+          let later = more c.if-eq.left (omega (arith, none, w.left-is)) in
+          (later.0, later.1, omega (arith, w.left-is, now.2))
     ]

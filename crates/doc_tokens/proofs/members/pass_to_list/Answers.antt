@@ -46,10 +46,13 @@ returns-in-BeginArray-clause-ok c ms ds has is =
     (then ∙ ap (λ k. token_of k ∷ c.next-2.new.self) c.in-BeginArray.is)
 
 pub returns-in_default-first : goal.returns-in_default-first
-returns-in_default-first c = record { ok = tt; err = λ ms ds has is.
-    let first : c.args.reader.now ≡ token_of c.in_ok-token.token ∷ c.next.new.self = grind arith in
-    let begins = first ∙ ap (λ k. token_of k ∷ c.next.new.self) c.in-BeginObject.is in
-    let then : c.pass_to_last.new.reader ≡ token_of c.in_ok-first.first ∷ c.next-2.new.self = grind arith in
-    no_list_here ds c.in_ok-first.first c.next-2.new.self c.in_default-first.not-BeginArray (subst (λ ts. WritesValue 126 ts (array ds)) then
-    (c.in_ok-pass_to_last.ensures.ok ms (array ds)
-    (members_begun c.args.name.now c.args.times c.args.reader.now c.next.new.self ms has begins) is)); }
+returns-in_default-first c = record {
+  ok = tt;
+  err = λ ms ds has is.
+      let first : c.args.reader.now ≡ token_of c.in_ok-token.token ∷ c.next.new.self = grind arith in
+      let begins = first ∙ ap (λ k. token_of k ∷ c.next.new.self) c.in-BeginObject.is in
+      let then : c.pass_to_last.new.reader ≡ token_of c.in_ok-first.first ∷ c.next-2.new.self = grind arith in
+      no_list_here ds c.in_ok-first.first c.next-2.new.self c.in_default-first.not-BeginArray (subst (λ ts. WritesValue 126 ts (array ds)) then
+      (c.in_ok-pass_to_last.ensures.ok ms (array ds)
+      (members_begun c.args.name.now c.args.times c.args.reader.now c.next.new.self ms has begins) is));
+}
