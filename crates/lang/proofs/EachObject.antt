@@ -105,12 +105,6 @@ module _ (version : ℕ) (old : List Token) (start : Counts) (numbers : Numbers)
         (object_placed version names o) (objects_placed version [] 0 all) e misread
         (λ found is. r.met (item o here.0) ∙ part_unmet c found (item_at i) (object_placed version names o) later is) failed seen)
 
-    -- there are more than were read
-    pub objects_more : (os : Items) (rest : List Token) → WritesItems 125 old os rest → length values < items_len os
-    objects_more os rest w =
-        let here = objects_here os rest w in
-        omega (arith, ap items_len here.1, r.counted (item o here.0))
-
   -- all of them
   pub objects_done : (now new : List Token) (next : Counts) (after : Numbers) (names : Table) (values : State)
       → ObjectsLeft version old now start next numbers after names values → after_end_array now ≡ Some new
