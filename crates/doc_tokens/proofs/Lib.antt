@@ -14,3 +14,4 @@ pub mod RangeLemmas
 pub mod HeldLemmas
 pub mod EntryLemmas
 pub mod ObjectLemmas
+pub mod HeadLemmas

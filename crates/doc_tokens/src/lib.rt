@@ -3,6 +3,7 @@
 #![tactic(auto)]
 
 mod digits;
+mod head;
 pub mod notes;
 pub mod pass;
 pub mod pull;

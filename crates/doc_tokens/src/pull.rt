@@ -596,7 +596,8 @@ pub(crate) fn pull_object(
 
 // ---- the document
 
-fn pull_version(reader: &mut Reader<'_>) -> Result<u8, Stop>
+/// The next number, which is a version.
+pub(crate) fn pull_version(reader: &mut Reader<'_>) -> Result<u8, Stop>
     ensures { IfOk result (λ version. (s : List ℕ) × (reader.old ≡ token.number s ∷ reader.new)
         × (number_of s ≡ Some (unsigned version))
         × (1 ≤ version) × (version ≤ LAST_VERSION)) }

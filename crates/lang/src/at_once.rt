@@ -114,7 +114,7 @@ fn read_head(alloc: Global, head: &str, state: &mut ReaderState) -> Result<Decla
 {
     let mut scratch = Scratch::new(alloc);
     let mut reader = Reader::new(head, &mut scratch)?;
-    pull_head_alone(alloc, &mut reader, state)
+    pull_head_alone(alloc, head.as_bytes(), &mut reader, state)
 }
 
 /// What the threads read: each range alone.
