@@ -14,6 +14,11 @@ def document(objects, transactions, version=1):
             % (version, ",".join(objects), ",".join(transactions))).encode()
 
 
+def sorted_by_name(given):
+    """The same document, with the members of all objects of JSON sorted by name."""
+    return json.dumps(json.loads(given), sort_keys=True, separators=(",", ":")).encode()
+
+
 def lines(texts):
     return "".join(text + "\n" for text in texts).encode()
 
@@ -255,6 +260,10 @@ def try_forms(program):
     forms = (
         ("a start below 0", plain),
         ("its members turned round", "{%s}" % ",".join(members[::-1])),
+        ("members sorted by name", sorted_by_name(plain).decode()),
+        ("a sorted version that is said again", sorted_by_name(plain).decode()[:-1] + ',"ordtx":4}'),
+        ("a sorted version after another",
+         sorted_by_name(plain).decode().replace('{"kind"', '{"start":{"ordtx":1},"kind"')),
         ("a version that is said again", '{"ordtx":1,%s' % plain[1:]),
         ("objects that are said again", '{"objects":[],%s' % plain[1:]),
         ("transactions that are said again",
@@ -293,7 +302,7 @@ def try_forms(program):
 
 
 def try_refusals(program):
-    """Faults of each kind, in both orders of a document's members."""
+    """Faults of each kind, in three orders of a document's members."""
     account = ACCOUNT
     broken = '{"name":"b","kind":"account","start":-1}'
     below = '[{"op":["a","deposit",-1]}]'
@@ -308,7 +317,7 @@ def try_refusals(program):
     for name, objects, transactions, number, transaction in rows:
         members = ['"ordtx":1', '"objects":[%s]' % objects,
                    '"transactions":[%s]' % transactions]
-        for order in (members, members[::-1]):
+        for order in (members, members[::-1], sorted(members)):
             text = "{%s}" % ",".join(order)
             program.expect_fault_everywhere(
                 name, text.encode(), number, transaction)
