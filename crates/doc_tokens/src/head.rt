@@ -1,8 +1,9 @@
 //! Reads a document straight from its tokens up to where its transactions begin.
 //!
-//! The common form: `ordtx`, `objects` and `transactions` in this order, or sorted by name: `objects`,
-//! `ordtx` and `transactions`. What objects may be depends on the version. Where it comes after them,
-//! they are read as of a version that the text seems to declare, and the one that comes is compared.
+//! The common form: `ordtx`, `objects` and `transactions` in this order, or sorted by name:
+//! `objects`, `ordtx` and `transactions`. What objects may be depends on the version. Where it
+//! comes after them, they are read as of the version that the text seems to declare. The one that
+//! comes is compared with it.
 ghost use Rattle.std.specs.Prelude.{◌≡◌, Bool, [], false, true, IfOk, OnOk};
 ghost use Rattle.doc_cuts.specs.Whole.{is_left};
 ghost use Rattle.doc_tokens.specs.Heads.{Closes, Opens};
@@ -94,8 +95,8 @@ fn pull_closing(reader: &mut Reader<'_>, version: u8, order: Order) -> Result<()
     pull_key(reader, "transactions")
 }
 
-/// What a document declares, of which the reader is then at its transactions. Of the text that the
-/// reader began with no more is taken than a guess of the version.
+/// What a document declares, of which the reader is then at its transactions. The text is the one
+/// that the reader began with. Nothing but a guess of the version is taken from it.
 pub(crate) fn pull_declared(
     alloc: Global,
     text: &[u8],

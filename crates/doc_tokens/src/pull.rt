@@ -4,9 +4,8 @@
 //! memory was refused, or the tokens are out of the common form. The document is then read otherwise
 //! (`document` of `lang`), which finds faults.
 //!
-//! The common form: the members `ordtx`, `objects` and `transactions` in this order; an object's
-//! members as `pull_objects` says, and a step's as `pull_blocks` says; in steps, numbers without a
-//! point or an exponent.
+//! The common form: a document's members as `head` says, an object's as `pull_objects` says, and a
+//! step's as `pull_blocks` says; in steps, numbers without a point or an exponent.
 ghost use Rattle.std.specs.Prelude.{◌≡◌, ℕ, Bool, List, ◌∷◌, ◌++◌, [], codes, length, option_map, false, true, Some, None, IfOk, IfSome, OnOk, ◌<◌, ◌+◌, ◌≤◌};
 ghost use Rattle.json.specs.Reads.{token_of};
 ghost use Rattle.json.specs.Token as token;

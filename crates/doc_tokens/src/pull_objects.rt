@@ -1,8 +1,8 @@
 //! Reads the objects of a document straight from their tokens.
 //!
 //! The common form of an object: `name`, `kind` and `start`, or `kind`, `name` and `start`, in this
-//! order and each once. Of one with another member before its start a small tree is made, and read as
-//! in any other document. One with a member after its start is out of form.
+//! order and each once. Of one with another member before its start a small tree is made, and read
+//! as in any other document. One with a member after its start is out of form.
 //!
 //! Whether an item of a set is new, or a key of a directory, is asked of the set or the directory
 //! itself: one name has one number.
@@ -261,8 +261,8 @@ fn with_text_member(
     Ok(more)
 }
 
-/// An object whose first key, which is that of a text, has been read: up to its start, where the key
-/// of a second text comes next, or a tree of it. The texts are in the order of their keys.
+/// An object whose first key has been read: up to its start, where only texts with these two keys
+/// come before it, or a tree of it. The texts are in the order of the keys.
 fn open_texts<'a>(
     alloc: Global,
     first: &str,
