@@ -165,6 +165,14 @@ pub record IsShortened (end : ℕ) (old new : Window) : Type 0 where
   pub runs : new.runs.items ≡ take (end - old.first) old.runs.items
   pub valid : new.valid.items ≡ take (end - old.first) old.valid.items
 
+-- where it is to be so, the run with a number is valid, and all else is as before
+pub record IsRenewed (number : ℕ) (again : Bool) (old new : Window) : Type 0 where
+  pub first : new.first ≡ old.first
+  pub runs : new.runs ≡ old.runs
+  pub flags : length new.valid.items ≡ length old.valid.items
+  pub others : (i : ℕ) → i ≢ number → old.first ≤ i → flag_at new i ≡ flag_at old i
+  pub same : again ≡ false → new ≡ old
+
 -- the numbers, each once, of the runs from one number on and before another that aren't valid
 pub record AreMissing (window : Window) (from upto : ℕ) (numbers : List ℕ) : Type 0 where
   pub before : (i : ℕ) → i < from → times i numbers ≡ 0

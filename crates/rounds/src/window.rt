@@ -6,8 +6,9 @@ ghost use Rattle.claims.specs.Views.{bit};
 ghost use Rattle.rounds.specs.Workspaces.{IsReadyOn};
 ghost use Rattle.rounds.specs.Passes.{CanBeMade};
 ghost use Rattle.rounds.specs.PendingRuns.{IsPendingOf, HoldsPast};
+ghost use Rattle.rounds.specs.Repeated.{Repeats};
 ghost use Rattle.rounds.specs.Views.{blocks_of, meaning};
-ghost use Rattle.rounds.specs.Windows.{run_at, flag_at, end_of, runs_between, IsValid, AllValid, IsWindowAt, IsOpenedBy, HasGrown, IsPutInWindow, AreFallen, AreStale, AreKept, IsFreedAt, AreCleared, AreSettled, IsShortened, AreMissing, IsDecided, Told, ArePassing};
+ghost use Rattle.rounds.specs.Windows.{run_at, flag_at, end_of, runs_between, IsValid, AllValid, IsWindowAt, IsOpenedBy, HasGrown, IsPutInWindow, AreFallen, AreStale, AreKept, IsFreedAt, AreCleared, AreSettled, IsShortened, IsRenewed, AreMissing, IsDecided, Told, ArePassing};
 ghost use Rattle.rounds.specs.declared.pending_run.PendingRun.{PendingRun as OnePending};
 ghost use Rattle.meaning.specs.declared.limits.TheConstants.{MAX_TRANSACTIONS};
 ghost use Rattle.plan.specs.declared.plan.TheConstants.{MAX_WORKERS};
@@ -452,6 +453,36 @@ impl Window {
         self.keep(job, conflict + 1, nets, upto)?;
         self.valid[conflict - self.first] = false;
         Ok(())
+    }
+
+    /// Whether the run with this number is valid, and its calls are known to get the same replies on
+    /// other objects. It is a run on these, too, then.
+    pub(crate) fn repeats(&self, number: usize, objects: &Objects) -> bool
+        requires flags { length self.now.valid.items ≡ length self.now.runs.items }
+        requires number { self.now.first ≤ number }
+        ensures valid { IsTrue result → IsValid self.now number }
+        ensures repeats { IsTrue result
+            → (d : OnePending) → Repeats objects.now (run_at self.now number d) }
+    {
+        let place = number - self.first;
+        if place >= self.valid.len() {
+            return false;
+        }
+        if !self.valid[place] {
+            return false;
+        }
+        self.runs[place].repeats(objects)
+    }
+
+    /// Makes the run with this number valid, where it is one on the objects of the next opening.
+    pub(crate) fn renew(&mut self, number: usize, again: bool)
+        requires flags { length self.old.valid.items ≡ length self.old.runs.items }
+        requires number { IsTrue again → (self.old.first ≤ number) × (number < end_of self.old) }
+        ensures { IsRenewed number again self.old self.new }
+    {
+        if again {
+            self.valid[number - self.first] = true;
+        }
     }
 
     /// Drops the runs from one number on.

@@ -1,4 +1,4 @@
-use Rattle.std.proofs.Common.{◌≤◌, ◌∙◌, length, sym, subst}
+use Rattle.std.proofs.Common.{◌≤◌, ◌∙◌, length, refl, sym, subst}
 use Rattle.committed.specs.Spans.{AreIn}
 use Rattle.committed.specs.Summaries.{entries_of, IsSummary}
 use Rattle.committed.specs.declared.summary.TheConstants.{FEW_ENTRIES}
@@ -8,6 +8,7 @@ pub returns-then-whole-clause-sums : goal.returns-then-whole-clause-sums
 returns-then-whole-clause-sums c =
     let same = c.requires.whole c.if-whole.true in
     record {
+      whole = λ none. same;
       entries_are = c.in_ok-span.ensures.summary;
       net_is = subst (IsSummary (entries_of c.summarize.new.summary.items)) (sym same) c.in_ok-span.ensures.summary;
     }
