@@ -23,7 +23,7 @@ use Rattle.meaning.specs.Records.{kept_of_child, kept_of_handler, kept_of_childr
 use Rattle.meaning.specs.OneThread.{Execution, Ran, record_of, outcome_of, labels_of, state_of, label_if, operate, operate_made}
 use Rattle.meaning.specs.OneThread.{operate_filled, as_branch, choose, as_handler, is_for, choose_handler, after_abort, act, as_step}
 use Rattle.meaning.specs.OneThread.{before_rest, go_on, before_younger, go_on_children, one, one_step, one_handler, one_children}
-use Rattle.meaning.specs.Batch.{block_at, net_of}
+use Rattle.meaning.specs.Batch.{block_at}
 use Rattle.meaning.proofs.Keeping.{after_call_rest, call_keeps}
 use Rattle.batch.specs.declared.batch.Batch.{Batch}
 use Rattle.committed.specs.Summaries.{entries_of}
@@ -33,7 +33,7 @@ use Rattle.intentions.proofs.EntriesLemmas.{after-append, fitting_replies}
 use Rattle.speculate.proofs.Room.{legal_call_fits, kept-le, kept_of_step-le, kept_of_child-le, kept_of_handler-le, kept_of_children-le}
 use Rattle.rounds.specs.Views.{meaning, blocks_of}
 use Rattle.rounds.specs.PendingRuns.{IsPendingOf}
-use Rattle.rounds.specs.Repeated.{IsRepeated, AreOfOthers, Repeats}
+use Rattle.rounds.specs.Repeated.{IsRepeated, AreOfOthers, AreApart, Repeats}
 use Rattle.rounds.specs.declared.pending_run.PendingRun.{PendingRun}
 use Rattle.rounds.proofs.Conflicts.{moved}
 use Rattle.rounds.proofs.Wholes.{each_kept}
@@ -50,45 +50,33 @@ other_reply (v ∷ vs) (suc other) done zero call apart = ap (λ state. reply_at
 other_reply (v ∷ vs) (suc other) done (suc object) call apart = ap (λ state. reply_at state (suc object) call)
     (after_call_rest v vs other done) ∙ other_reply vs other done object call (λ same. apart (ap suc same))
 
--- each of the first entries gets its reply on the state, and none before it is of its object
-pub record AreRepeated (state : State) (entries : List Entry) (count : ℕ) : Type 0 where
-  pub each : (i : ℕ) (d : Entry) → i < count → IsRepeated state (get_or entries i d)
-  pub apart : (i k : ℕ) (d : Entry) → i < count → k < i → ¬ ((get_or entries k d).object ≡ (get_or entries i d).object)
-
--- they are legal then
-pub all_legal : (state : State) (ps : List Entry) → AreRepeated state ps (length ps) → AreLegal state ps
-all_legal state [] known = tt
-all_legal state (p ∷ ps) known = (
-  known.each 0 p (omega arith),
-  all_legal (after_call state p.object p.call) ps (record {
-    each = λ i d lt. other_reply state p.object p.call (get_or ps i d).object (get_or ps i d).call
-        (known.apart (suc i) 0 d (omega arith) (omega arith)) ∙ known.each (suc i) d (omega arith);
-    apart = λ i k d lt less. known.apart (suc i) (suc k) d (omega arith) (omega arith);
-  }),
+-- entries of which each gets its reply on the state are legal there, where no two are of one object
+pub all_legal : (state : State) (ps : List Entry) → AreApart ps (length ps)
+    → ((i : ℕ) (d : Entry) → i < length ps → IsRepeated state (get_or ps i d)) → AreLegal state ps
+all_legal state [] apart each = tt
+all_legal state (p ∷ ps) apart each = (
+  each 0 p (omega arith),
+  all_legal (after_call state p.object p.call) ps (λ i k d lt less. apart (suc i) (suc k) d (omega arith) (omega arith))
+      (λ i d lt. other_reply state p.object p.call (get_or ps i d).object (get_or ps i d).call
+      (apart (suc i) 0 d (omega arith) (omega arith)) ∙ each (suc i) d (omega arith)),
 )
 
--- one more is repeated, and is of an object that none before it is of
-pub one_repeated : (state : State) (marked : List MarkedEntry) (place : ℕ) (m : MarkedEntry) → place < length marked
-    → m ≡ get_or marked place m → AreRepeated state (entries_of marked) place → IsRepeated state m.entry
-    → AreOfOthers m.entry.object (entries_of (take place marked)) → AreRepeated state (entries_of marked) (place + 1)
-one_repeated state marked place m inside is so_far here others =
+-- one more is apart from those before it
+pub one_apart : (marked : List MarkedEntry) (place : ℕ) (m : MarkedEntry) → place < length marked → m ≡ get_or marked place m
+    → AreApart (entries_of marked) place → AreOfOthers m.entry.object (entries_of (take place marked))
+    → AreApart (entries_of marked) (place + 1)
+one_apart marked place m inside is so_far others i k d lt less =
     let ps = entries_of marked in
-    let entry : (d : Entry) → m.entry ≡ get_or ps place d = λ d. entry_at marked place m d inside is in
     let size : length (entries_of (take place marked)) ≡ place =
-    length-map (take place marked) (λ (k : MarkedEntry). k.entry) ∙ length-take-le place marked (omega arith) in
-    let read : (k : ℕ) (d : Entry) → k < place → get_or (entries_of (take place marked)) k d ≡ get_or ps k d = λ k d lt.
-    ap (λ es. get_or es k d) (sym (take-map (λ (k : MarkedEntry). k.entry) place marked)) ∙ get_or-take place ps k d lt in
-    record {
-      each = λ i d lt. elim (ℕ_discrete place i) [
-        | yes same ↦ subst (λ j. IsRepeated state (get_or ps j d)) same (subst (IsRepeated state) (entry d) here)
-        | no other ↦ so_far.each i d (omega arith)
-      ];
-      apart = λ i k d lt less. elim (ℕ_discrete place i) [
-        | yes same ↦ λ alike. others k d (omega arith) (ap (λ (e : Entry). e.object) (read k d (omega arith))
-            ∙ (alike ∙ (ap (λ j. (get_or ps j d).object) (sym same) ∙ sym (ap (λ (e : Entry). e.object) (entry d)))))
-        | no other ↦ so_far.apart i k d (omega arith) less
-      ];
-    }
+    length-map (take place marked) (λ (n : MarkedEntry). n.entry) ∙ length-take-le place marked (omega arith) in
+    let read : k < place → get_or (entries_of (take place marked)) k d ≡ get_or ps k d = λ early.
+    ap (λ es. get_or es k d) (sym (take-map (λ (n : MarkedEntry). n.entry) place marked)) ∙ get_or-take place ps k d early in
+    elim (ℕ_discrete place i) [
+      | yes same ↦ λ alike. others k d (omega arith) (ap (λ (e : Entry). e.object) (read (omega arith))
+          ∙ (alike ∙ (ap (λ j. (get_or ps j d).object) (sym same)
+          ∙ sym (ap (λ (e : Entry). e.object) (entry_at marked place m d inside is)))))
+      | no other ↦ so_far i k d (omega arith) less
+    ]
 
 -- ---- a call that doesn't fit is of another kind, and doesn't fit on other objects of these kinds
 

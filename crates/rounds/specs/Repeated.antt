@@ -13,6 +13,11 @@ IsRepeated state entry = reply_at state entry.object entry.call ≡ Some entry.r
 abbrev pub AreOfOthers : ℕ → List Entry → Type 0
 AreOfOthers object entries = (k : ℕ) (d : Entry) → k < length entries → ¬ ((slice_index_or entries k d).object ≡ object)
 
+-- of the first of these entries no two are of one object
+abbrev pub AreApart : List Entry → ℕ → Type 0
+AreApart entries count = (i k : ℕ) (d : Entry) → i < count → k < i
+    → ¬ ((slice_index_or entries k d).object ≡ (slice_index_or entries i d).object)
+
 -- The run left all its entries, which are legal on this state.
 pub record Repeats (state : State) (run : PendingRun) : Type 0 where
   pub whole : run.sums.of_net ≡ None

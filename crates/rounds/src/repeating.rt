@@ -1,8 +1,8 @@
 //! Whether calls get the same replies on other objects.
-ghost use Rattle.std.specs.Prelude.{IsTrue};
+ghost use Rattle.std.specs.Prelude.{IsTrue, length};
 ghost use Rattle.objects.specs.Entries.{AreLegal};
 ghost use Rattle.committed.specs.Summaries.{entries_of};
-ghost use Rattle.rounds.specs.Repeated.{IsRepeated, AreOfOthers};
+ghost use Rattle.rounds.specs.Repeated.{IsRepeated, AreOfOthers, AreApart};
 
 use committed::MarkedEntry;
 use objects::{Entry, Objects};
@@ -32,18 +32,29 @@ fn has_object(entries: &[MarkedEntry], object: u32) -> bool
     false
 }
 
+// Whether no two of these entries are of one object.
+fn are_apart(entries: &[MarkedEntry]) -> bool
+    ensures { IsTrue result → AreApart (entries_of entries.now) (length entries.now) }
+{
+    for place in 0..entries.len() {
+        if has_object(&entries[..place], entries[place].entry.object) {
+            return false;
+        }
+    }
+    true
+}
+
 /// Whether the calls of these entries, one after the other, are known to get the same replies on
 /// these objects. Each call is asked of the objects as they are. So nothing is known where two calls
 /// are on one object.
 pub(crate) fn are_repeated(objects: &Objects, entries: &[MarkedEntry]) -> bool
     ensures { IsTrue result → AreLegal objects.now (entries_of entries.now) }
 {
-    for place in 0..entries.len() {
-        let entry = &entries[place].entry;
-        if has_object(&entries[..place], entry.object) {
-            return false;
-        }
-        if !is_repeated(objects, entry) {
+    if !are_apart(entries) {
+        return false;
+    }
+    for marked in entries {
+        if !is_repeated(objects, &marked.entry) {
             return false;
         }
     }

@@ -8,7 +8,7 @@ ghost use Rattle.rounds.specs.Passes.{CanBeMade};
 ghost use Rattle.rounds.specs.PendingRuns.{IsPendingOf, HoldsPast};
 ghost use Rattle.rounds.specs.Repeated.{Repeats};
 ghost use Rattle.rounds.specs.Views.{blocks_of, meaning};
-ghost use Rattle.rounds.specs.Windows.{run_at, flag_at, end_of, runs_between, IsValid, AllValid, IsWindowAt, IsOpenedBy, HasGrown, IsPutInWindow, AreFallen, AreStale, AreKept, IsFreedAt, AreCleared, AreSettled, IsShortened, IsRenewed, AreMissing, IsDecided, Told, ArePassing};
+ghost use Rattle.rounds.specs.Windows.{run_at, flag_at, end_of, runs_between, IsValid, AllValid, IsWindowAt, IsOpenedBy, HasGrown, IsPutInWindow, AreFallen, AreStale, AreKept, IsFreedAt, AreMovedUp, AreSettled, IsShortened, IsRenewed, AreMissing, IsDecided, Told, ArePassing};
 ghost use Rattle.rounds.specs.declared.pending_run.PendingRun.{PendingRun as OnePending};
 ghost use Rattle.meaning.specs.declared.limits.TheConstants.{MAX_TRANSACTIONS};
 ghost use Rattle.plan.specs.declared.plan.TheConstants.{MAX_WORKERS};
@@ -503,12 +503,20 @@ impl Window {
         self.runs[place].free_sums(alloc);
     }
 
-    // The runs at the first places aren't valid any more.
-    fn clear(&mut self, count: usize)
-        requires { count ≤ length self.old.valid.items }
-        ensures { AreCleared count self.old self.new }
+    // Brings the runs past the first places to the front, in their order. Those that were there come
+    // to the end, and aren't valid any more. They are no fewer.
+    fn move_up(&mut self, count: usize)
+        requires flags { length self.old.valid.items ≡ length self.old.runs.items }
+        requires inside { count ≤ length self.old.runs.items }
+        requires half { length self.old.runs.items ≤ count + count }
+        ensures { AreMovedUp count self.old self.new }
     {
-        for place in 0..count {
+        let left = self.runs.len() - count;
+        for place in 0..left {
+            self.runs.swap(place, count + place);
+            self.valid[place] = self.valid[count + place];
+        }
+        for place in left..self.valid.len() {
             self.valid[place] = false;
         }
     }
@@ -536,9 +544,7 @@ impl Window {
             records.push(self.runs[place].take_record(alloc))?;
         }
         if count >= self.runs.len() - count {
-            self.clear(count);
-            self.runs.rotate_left(count);
-            self.valid.rotate_left(count);
+            self.move_up(count);
             self.first = end;
         }
         Ok(())

@@ -1,6 +1,5 @@
-use Rattle.std.proofs.Common.{◌∙◌, sym, ap, subst}
-use Rattle.intentions.specs.Levels.{Intentions as View}
-use Rattle.rounds.specs.Windows.{IsWindowAt, IsRoundSeen}
+use Rattle.std.proofs.Common.{sym, subst}
+use Rattle.rounds.specs.Windows.{IsRoundSeen}
 use Rattle.rounds.proofs.seek.seek.Goals as goal
 
 pub returns-clause-seen : goal.returns-clause-seen

@@ -1,4 +1,4 @@
-use Rattle.std.proofs.Common.{◌≤◌, ◌∙◌, length, refl, sym, subst}
+use Rattle.std.proofs.Common.{◌≤◌, ◌∙◌, length, sym, subst}
 use Rattle.committed.specs.Spans.{AreIn}
 use Rattle.committed.specs.Summaries.{entries_of, IsSummary}
 use Rattle.committed.specs.declared.summary.TheConstants.{FEW_ENTRIES}
