@@ -235,7 +235,8 @@ moved from end_ start count old taken up new before after flags low ordered high
     let all_flags = moves.flags in
     record {
       first = omega arith;
-      flags = ap (λ v. length v.items) valid ∙ (all_flags ∙ (sizes ∙ (flags ∙ (sym size ∙ (sym all ∙ sym (ap (λ rs. length rs.items) runs))))));
+      flags = ap (λ v. length v.items) valid ∙ (all_flags ∙ (sizes ∙ (flags ∙ (sym size
+          ∙ (sym all ∙ sym (ap (λ rs. length rs.items) runs))))));
       pushed = all_taken from end_ start count old taken before.items after.items low begins ends are;
       same = λ i d later within.
           let place : count + (i - end_) ≡ i - old.first = omega arith in

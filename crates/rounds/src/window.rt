@@ -523,8 +523,9 @@ impl Window {
 
     /// Moves the records of the runs from one number on and before another to the end of a list.
     /// Those of the runs before them were moved earlier. The memory of all these runs is kept for
-    /// runs of later transactions: where they have at least half of the places, these come to the
-    /// end, and the window begins after them. So a transaction costs two moves of a place at most.
+    /// runs of later transactions: where they have at least half of the places, these are exchanged
+    /// with the later ones, with which the window begins. So a transaction costs one exchange of two
+    /// places at most.
     ///
     /// Returns `NoMemory` where a request for memory was refused.
     pub(crate) fn settle(

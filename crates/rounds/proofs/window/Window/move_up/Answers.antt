@@ -19,7 +19,8 @@ loop-place-preserved c =
     let sizes = so_far.flags in
     let there : c.args.count + place < length window.valid.items = omega arith in
     one_exchanged c.args.count place old window _ (omega arith) (omega arith) flags so_far refl c.swap.ensures.items
-    (ap (set window.valid.items place) (get_or_read window.valid.items (c.args.count + place) c.index.result.now there c.index.ensures false))
+    (ap (set window.valid.items place)
+    (get_or_read window.valid.items (c.args.count + place) c.index.result.now there c.index.ensures false))
 
 pub loop-place-2-init : goal.loop-place-2-init
 loop-place-2-init c =
