@@ -10,7 +10,7 @@ def document(objects, transactions, version=4):
 
 
 def turned_round(document):
-    """The same document, its members in another order: it is read as a tree."""
+    """The same document, its members in another order: it is read by small trees."""
     members = json.loads(document)
     return json.dumps({key: members[key] for key in reversed(members)},
                       separators=(",", ":")).encode()

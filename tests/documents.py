@@ -14,6 +14,11 @@ def document(objects, transactions, version=1):
             % (version, ",".join(objects), ",".join(transactions))).encode()
 
 
+def sorted_by_name(given):
+    """The same document, with the members of all objects of JSON sorted by name."""
+    return json.dumps(json.loads(given), sort_keys=True, separators=(",", ":")).encode()
+
+
 def lines(texts):
     return "".join(text + "\n" for text in texts).encode()
 
@@ -255,10 +260,24 @@ def try_forms(program):
     forms = (
         ("a start below 0", plain),
         ("its members turned round", "{%s}" % ",".join(members[::-1])),
+        ("members sorted by name", sorted_by_name(plain).decode()),
+        ("a sorted version that is said again", sorted_by_name(plain).decode()[:-1] + ',"ordtx":4}'),
+        ("a sorted version after another",
+         sorted_by_name(plain).decode().replace('{"kind"', '{"start":{"ordtx":1},"kind"')),
         ("a version that is said again", '{"ordtx":1,%s' % plain[1:]),
         ("objects that are said again", '{"objects":[],%s' % plain[1:]),
         ("transactions that are said again",
          '{"transactions":[[{"op":7}]],%s' % plain[1:]),
+        ("transactions that are said three times",
+         '{"transactions":7,"transactions":{},%s' % plain[1:]),
+        ("lists that are said again after each other",
+         '{"transactions":[[]],"objects":[7],%s' % plain[1:]),
+        ("an empty list between the members",
+         '{%s,"transactions":[],%s,"objects":[],%s,%s}' % (members[0], members[2], members[1], members[2])),
+        ("a name of a list within an earlier one",
+         '{"transactions":[{"objects":[],"transactions":[]}],%s' % plain[1:]),
+        ("a list whose name has escapes, and then again",
+         '{"objec\\u0074s":[7],%s' % plain[1:]),
         ("an operation that is said again",
          plain.replace('{"op"', '{"op":["d","deq"],"op"')),
         ("a label before its operation",
@@ -270,6 +289,8 @@ def try_forms(program):
         ("spaces and line ends", " \n" + plain.replace(",", " ,\r\n\t ")
          .replace(":", " : ").replace("]", " ] ") + "\t\n"),
     )
+    orders = itertools.permutations(members)
+    forms += tuple(("an order of its members", "{%s}" % ",".join(order)) for order in orders)
     for name, text in forms:
         program.expect_report(name, text.encode(), report, [])
         start = text.replace("-3", "7")
@@ -293,7 +314,7 @@ def try_forms(program):
 
 
 def try_refusals(program):
-    """Faults of each kind, in both orders of a document's members."""
+    """Faults of each kind, in each order of a document's members."""
     account = ACCOUNT
     broken = '{"name":"b","kind":"account","start":-1}'
     below = '[{"op":["a","deposit",-1]}]'
@@ -308,7 +329,7 @@ def try_refusals(program):
     for name, objects, transactions, number, transaction in rows:
         members = ['"ordtx":1', '"objects":[%s]' % objects,
                    '"transactions":[%s]' % transactions]
-        for order in (members, members[::-1]):
+        for order in itertools.permutations(members):
             text = "{%s}" % ",".join(order)
             program.expect_fault_everywhere(
                 name, text.encode(), number, transaction)

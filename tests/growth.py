@@ -6,7 +6,7 @@ import subprocess
 import tempfile
 
 import preloaded
-from documents import ACCOUNT, document
+from documents import ACCOUNT, document, sorted_by_name
 
 SET = '{"name":"s","kind":"set","start":[]}'
 LARGE = ('{"name":"s","kind":"set","start":[%s]}'
@@ -164,11 +164,12 @@ def try_reading_at_once(program, library):
     deposits = block(*[op("a", "deposit", 1)] * 5)
     for size, workers, expected in ((9_900, "1", 0), (9_900, "2", 1), (9_900, "4", 3), (3_000, "4", 0)):
         faulty = document([ACCOUNT], [deposits] * size + [block(op("a", "other"))])
-        for command in ("run", "serial", "carry", "check"):
-            words = [command, "--workers", workers]
-            got, _, started = preloaded.run(library, 0, words, program.path, faulty, together=True)
-            program.compare("threads that read %d transactions: %d" % (size, started), words,
-                            (got[1], started, None), (1, expected, None))
+        for given in (faulty, sorted_by_name(faulty)):
+            for command in ("run", "serial", "carry", "check"):
+                words = [command, "--workers", workers]
+                got, _, started = preloaded.run(library, 0, words, program.path, given, together=True)
+                program.compare("threads that read %d transactions: %d" % (size, started), words,
+                                (got[1], started, None), (1, expected, None))
 
 
 # A step, and how many requests for memory its reading may take. By a tree it takes three times as many.
@@ -209,10 +210,11 @@ def try_starts(program, library):
     """Objects are read straight from the text: an entry takes the text of its name and a place in its object."""
     for kind, entry, most in STARTS:
         words, entries = ["check"], ",".join(entry % number for number in range(10_000))
-        got, made, _ = preloaded.run(
-            library, 0, words, program.path, document(['{"name":"s","kind":"%s","start":[%s]}' % (kind, entries)], []))
-        program.compare("reading of a %s of 10,000: %d requests" % (kind, made), words,
-                        (got[1], made <= 10_000 * most + 200, None), (0, True, None))
+        given = document(['{"name":"s","kind":"%s","start":[%s]}' % (kind, entries)], [])
+        for order, text in (("", given), ("sorted ", sorted_by_name(given))):
+            got, made, _ = preloaded.run(library, 0, words, program.path, text)
+            program.compare("reading of a %s%s of 10,000: %d requests" % (order, kind, made), words,
+                            (got[1], made <= 10_000 * most + 200, None), (0, True, None))
 
 
 def try_input(program, library):

@@ -27,7 +27,7 @@ def try_loops(program, library, path):
 
 
 def turned_round(document):
-    """The same document, its members in another order: it is read as a tree from the first."""
+    """The same document, its members in another order: it is read by small trees."""
     members = json.loads(document)
     return json.dumps({key: members[key] for key in reversed(members)}).encode()
 

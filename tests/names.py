@@ -94,7 +94,7 @@ SHAPES = (
 
 
 def turned_round(given):
-    """The same document in another order, which is read as one tree."""
+    """The same document in another order, which is read by small trees."""
     head, transactions = given[:-1].split(b',"transactions":', 1)
     return b'{"transactions":%s,%s}' % (transactions, head[1:])
 

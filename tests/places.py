@@ -1,6 +1,7 @@
 """Where a document's first fault is, by `locate`: a JSON Pointer that is known from how the document was built, with the line
 and the column at which the part begins, or a line and a column alone."""
 
+import itertools
 import json
 import pathlib
 import re
@@ -309,6 +310,24 @@ def try_wholes(program):
         expect_place(program, "fault %d of a whole document" % number, value, number, 0, way)
 
 
+def try_orders(program):
+    """The place of a fault in a document's members, in each order, and where one is said again."""
+    good, wrong = [[GOOD], [GOOD]], [[GOOD], [GOOD, {"op": ["a", "add", 1]}]]
+    twice = [ACCOUNT, COUNTER, ACCOUNT]
+    for objects, transactions, number, transaction, way in (
+            (OBJECTS, wrong, 6, 2, ["transactions", 1, 1]), (twice, wrong, 4, 0, ["objects", 2])):
+        members = {"ordtx": 4, "objects": objects, "transactions": transactions}
+        for order in itertools.permutations(members):
+            expect_place(program, "a fault in another order", {name: members[name] for name in order}, number, transaction, way)
+        told = ",".join("%s:%s" % (json.dumps(name), json.dumps(value)) for name, value in members.items())
+        for before in ('"transactions":%s' % json.dumps(good), '"objects":[7]', '"objects":[],"transactions":[[7]]'):
+            text = ("{%s,%s}" % (before, told)).encode()
+            out, status, err = program.run(["locate"], text)
+            start = "fault %d transaction %d at %s line " % (number, transaction, pointer(way))
+            told_so = out.startswith(start.encode())
+            program.compare("a fault after " + before, ["locate"], (told_so, status, err), (True, 1, b""))
+
+
 def no_json(before):
     """The line of a text that goes no further after these bytes. A string that isn't closed counts by its first quote."""
     if before.count(b'"') % 2:
@@ -400,5 +419,6 @@ def try_all(program):
     try_objects(program)
     try_limits(program)
     try_wholes(program)
+    try_orders(program)
     try_no_json(program)
     try_cases(program)

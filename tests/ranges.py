@@ -2,6 +2,8 @@
 
 import re
 
+from documents import sorted_by_name
+
 RANGE = 1_048_576  # as in crates/lang/src/document.rt
 LEDGER = '{"name":"a","kind":"account","start":0},{"name":"s","kind":"set","start":[]}'
 
@@ -72,6 +74,15 @@ def try_workers(program, name, whole):
             program.compare(name, words, program.run(words, whole), wanted)
 
 
+def try_sorted(program, whole):
+    """A document whose members are sorted by name has the same answers, however many threads read it."""
+    turned = sorted_by_name(whole)
+    for command in ("run", "serial", "check", "carry"):
+        wanted = program.run([command], whole)
+        program.compare("sorted members", [command], program.run([command], turned), wanted)
+    try_workers(program, "sorted members", turned)
+
+
 def try_faults(program, listed):
     """A fault in each range: texts and lists with cuts, other operations, values that aren't whole."""
     for place in (0, 3_000, 5_500, len(listed) - 1):
@@ -99,6 +110,7 @@ def try_all(program):
     try_workers(program, "pairs", document(LEDGER + "," + held, listed, ","))
     for comma in COMMAS:
         try_workers(program, "threads", document(MIXED, mixed(4_000), comma))
+    try_sorted(program, document(MIXED, mixed(4_000), ","))
     try_same(program, "calls of replies", MIXED, list(made(4_000)), commas=COMMAS[:1], version=5)
     try_workers(program, "calls of replies", document(MIXED, made(4_000), ",", 5))
     broken = list(mixed(4_000))

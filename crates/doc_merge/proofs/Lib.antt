@@ -12,3 +12,5 @@ pub mod AfterRange
 pub mod OwnNumbers
 pub mod Unchanged
 pub mod PartLemmas
+pub mod Together
+pub mod RangesTogether

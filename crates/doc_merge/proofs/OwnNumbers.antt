@@ -17,7 +17,7 @@ use Rattle.doc_merge.specs.Renumbered.{merged, new_number, numbers_in}
 use Rattle.doc_merge.proofs.NumberedTexts.{fit_same, listed_at}
 
 -- no text is there twice
-abbrev Apart : Table → Type 0
+abbrev pub Apart : Table → Type 0
 Apart table = (i j : ℕ) → i < j → j < length table → bytes_eq (get_or table i []) (get_or table j []) ≡ false
 
 same_bytes : (text : List ℕ) → bytes_eq text text ≡ true
@@ -28,7 +28,7 @@ other_way a b other = false_from_ne_true _ (λ same.
     let alike : bytes_eq a b ≡ true = (bytes_eq-Decides a b).1 (sym ((bytes_eq-Decides b a).0 same)) in cc)
 
 -- the texts of distinct keys
-keys_apart : (keys : List (String Global)) → IsDistinct string_eq keys → Apart (texts_of keys)
+pub keys_apart : (keys : List (String Global)) → IsDistinct string_eq keys → Apart (texts_of keys)
 keys_apart [] distinct i j less within = absurd (omega (arith, within))
 keys_apart (k ∷ keys) distinct i j less within =
     let size = length-texts_of (k ∷ keys) in
@@ -38,7 +38,7 @@ keys_apart (k ∷ keys) distinct i j less within =
     (λ t. bytes_eq (first t) (second t)) ∙ apart_from_distinct string_eq (k ∷ keys) i j k distinct less below
 
 -- a text that comes after others isn't listed among them
-not_before : (done : Table) (text : List ℕ) (rest : Table) → Apart (done ++ text ∷ rest) → is_listed text done ≡ false
+pub not_before : (done : Table) (text : List ℕ) (rest : Table) → Apart (done ++ text ∷ rest) → is_listed text done ≡ false
 not_before done text rest apart = false_from_ne_true _ (λ listed.
     let at = listed_at text done listed in
     let below = at.below in

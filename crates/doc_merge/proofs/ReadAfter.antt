@@ -40,12 +40,12 @@ still_listed text other table e = by (is_listed other table)
     by false = listed_kept text table (other ∷ []) e
 
 -- a text of the first table is listed in both together
-first_merged : (text : List ℕ) (table texts : Table) → is_listed text table ≡ true → is_listed text (merged table texts) ≡ true
+pub first_merged : (text : List ℕ) (table texts : Table) → is_listed text table ≡ true → is_listed text (merged table texts) ≡ true
 first_merged text table [] e = e
 first_merged text table (t ∷ texts) e = first_merged text (with_text t table) texts (still_listed text t table e)
 
 -- and so is one of the other
-other_merged : (text : List ℕ) (table texts : Table) → is_listed text texts ≡ true → is_listed text (merged table texts) ≡ true
+pub other_merged : (text : List ℕ) (table texts : Table) → is_listed text texts ≡ true → is_listed text (merged table texts) ≡ true
 other_merged text table [] e = cc
 other_merged text table (t ∷ texts) e = by (bytes_eq text t) refl (other_merged text (with_text t table) texts) e
   where

@@ -3,3 +3,4 @@ pub mod ReadAfter
 pub mod RangeReads
 pub mod AfterRange
 pub mod Parts
+pub mod Tables

@@ -9,4 +9,3 @@ pub mod ranges;
 mod tables;
 
 pub use blocks::{NewNumbers, renumber_block};
-pub use tables::merge_texts;

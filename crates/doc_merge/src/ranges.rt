@@ -1,25 +1,26 @@
 //! Reads a range of a document alone, and puts what was read of ranges after one another.
-ghost use Rattle.std.specs.Prelude.{◌≡◌, ◌≤◌, ◌+◌, [], length, map, IfOk, OnOk};
-ghost use Rattle.batch.specs.Views.{block_view};
+ghost use Rattle.std.specs.Prelude.{◌≡◌, ◌≤◌, ◌+◌, [], ◌∷◌, drop, length, map, IfOk, OnOk};
+ghost use Rattle.batch.specs.Names.{texts_of};
 ghost use Rattle.doc_merge.specs.AfterRange.{counts_after};
-ghost use Rattle.doc_merge.specs.Parts.{IsPlaced, renumbered_parts};
+ghost use Rattle.doc_merge.specs.Parts.{AreCounted, AreParts, items_of, reached_by, reasons_of};
 ghost use Rattle.doc_merge.specs.RangeReads.{AreMerged, IsReadAlone};
 ghost use Rattle.doc_tokens.specs.Ranges.{reached};
 ghost use Rattle.doc_rules.specs.Limits.{limits_of};
-ghost use Rattle.doc_tree.specs.Scope.{scope_of, setting_of};
+ghost use Rattle.doc_tree.specs.Scope.{setting_of};
 
 use crate::blocks::NewNumbers;
 use crate::parts::{Part, append_parts, renumber_parts};
-use crate::tables::{MOST_TEXTS, merge_texts};
+use crate::tables::{MOST_TEXTS, but_places, merge_tables};
 use batch::Block;
 use doc_rules::Limits;
 use doc_tokens::ranges::{RangeEnd, pull_range};
 use doc_tokens::stop::Stop;
 use doc_tree::counts::Counts;
 use doc_tree::declared::Declared;
-use doc_tree::hashing::NameHashing;
+use doc_tree::hashing::{NameHashing, TextSet};
 use doc_tree::state::{Numbering, ReaderState};
 use json::{Reader, Scratch};
+use serial::NoMemory;
 use std::alloc::Global;
 use std::thread::Threads;
 
@@ -90,71 +91,124 @@ fn add_counts(counts: &mut Counts, more: &Counts, version: u8, before: u32) -> R
     Ok(())
 }
 
-/// Counts and numbers what was read of a range alone, after so many transactions before it. Returns
-/// its blocks with the new numbers of their items and reasons.
-fn place_range(
-    alloc: Global,
-    read: RangeRead,
-    before: usize,
-    declared: &Declared,
-    state: &mut ReaderState,
-) -> Result<Part, Stop>
-    requires { before ≤ (limits_of declared.now.version).transactions }
-    ensures read { IfOk result (λ part. IsPlaced (setting_of declared.now) read before state.old
-        part state.new) }
-    ensures few { IfOk result (λ part. before + length part.blocks.items
-        ≤ (limits_of declared.now.version).transactions) }
-    ensures labels { OnOk result (state.new.labels ≡ state.old.labels) }
-{
-    let RangeRead {
-        transactions: blocks,
-        counts,
-        numbering,
-        ..
-    } = read;
-    let Numbering { items, reasons, .. } = numbering;
-    let limits = Limits::of(declared.version);
-    if before + blocks.len() > limits.transactions
-        || items.len() > MOST_TEXTS
-        || reasons.len() > MOST_TEXTS
-    {
-        return Err(Stop::OtherForm);
-    }
-    add_counts(&mut state.counts, &counts, declared.version, before as u32)?;
-    let new_items = merge_texts(alloc, &mut state.numbering.items, items)?;
-    let new_reasons = merge_texts(alloc, &mut state.numbering.reasons, reasons)?;
-    let numbers = NewNumbers {
-        items: new_items,
-        reasons: new_reasons,
-    };
-    Ok(Part { numbers, blocks })
+/// What was read of ranges, in three lists: the tables of items and of reasons, after those of the
+/// head, and the transactions.
+#[derive(Drop)]
+struct SplitReads {
+    items: Vec<TextSet>,
+    reasons: Vec<TextSet>,
+    transactions: Vec<Vec<Block>>,
 }
 
-/// Counts and numbers what was read of ranges, one after the other.
-fn place_ranges(
+/// Splits what was read of ranges.
+fn split_reads(
     alloc: Global,
+    head: Numbering,
     reads: Vec<RangeRead>,
-    declared: &Declared,
-    state: &mut ReaderState,
-) -> Result<Vec<Part>, Stop>
-    ensures read { IfOk result (λ parts. AreMerged (setting_of declared.now) reads.items
-        (reached state.old []) (reached state.new (renumbered_parts parts.items))) }
-    ensures few { IfOk result (λ parts. length (renumbered_parts parts.items)
-        ≤ (limits_of declared.now.version).transactions) }
-    ensures labels { OnOk result (state.new.labels ≡ state.old.labels) }
+) -> Result<SplitReads, NoMemory>
+    ensures items { IfOk result (λ split. map (λ table. texts_of table.keys) split.items.items
+        ≡ texts_of head.items.keys ∷ map items_of reads.items) }
+    ensures reasons { IfOk result (λ split. map (λ table. texts_of table.keys) split.reasons.items
+        ≡ texts_of head.reasons.keys ∷ map reasons_of reads.items) }
+    ensures transactions { IfOk result (λ split. map (λ one. one.items)
+        split.transactions.items ≡ map (λ read. read.transactions.items) reads.items) }
 {
-    let mut parts = Vec::with_capacity(alloc, reads.len())?;
-    let mut before = 0;
+    let mut items = Vec::with_capacity(alloc, reads.len())?;
+    let mut reasons = Vec::with_capacity(alloc, reads.len())?;
+    let mut transactions = Vec::with_capacity(alloc, reads.len())?;
+    let Numbering {
+        items: head_items,
+        reasons: head_reasons,
+        ..
+    } = head;
+    items.push(head_items)?;
+    reasons.push(head_reasons)?;
     for read in reads {
-        let part = place_range(alloc, read, before, declared, state)?;
-        before += part.blocks.len();
-        parts.push(part)?;
+        let RangeRead {
+            transactions: blocks,
+            numbering,
+            ..
+        } = read;
+        let Numbering {
+            items: own_items,
+            reasons: own_reasons,
+            ..
+        } = numbering;
+        items.push(own_items)?;
+        reasons.push(own_reasons)?;
+        transactions.push(blocks)?;
+    }
+    Ok(SplitReads {
+        items,
+        reasons,
+        transactions,
+    })
+}
+
+/// Counts what was read of ranges, one after the other.
+///
+/// [`Stop::OtherForm`] where a document may not have so much of something, or where a range has more
+/// texts than there are numbers.
+fn count_ranges(reads: &[RangeRead], version: u8, counts: &mut Counts) -> Result<(), Stop>
+    ensures { OnOk result (AreCounted version 0 counts.old reads.now counts.new) }
+{
+    let limits = Limits::of(version);
+    let mut before: usize = 0;
+    for read in reads {
+        let transactions = read.transactions.len();
+        let texts = read.numbering.items.len().max(read.numbering.reasons.len());
+        if before.saturating_add(transactions) > limits.transactions || texts > MOST_TEXTS {
+            return Err(Stop::OtherForm);
+        }
+        add_counts(counts, &read.counts, version, before as u32)?;
+        before += transactions;
+    }
+    Ok(())
+}
+
+/// The transactions of ranges, with the new numbers of their items and reasons. Those of the head
+/// come first among the numbers.
+fn parts_of(
+    alloc: Global,
+    transactions: Vec<Vec<Block>>,
+    items: Vec<Vec<u32>>,
+    reasons: Vec<Vec<u32>>,
+) -> Result<Vec<Part>, NoMemory>
+    requires items { length items.items ≡ length transactions.items + 1 }
+    requires reasons { length reasons.items ≡ length transactions.items + 1 }
+    ensures { IfOk result (λ parts. AreParts (map (λ one. one.items) transactions.items)
+        (drop 1 (map (λ one. one.items) items.items))
+        (drop 1 (map (λ one. one.items) reasons.items)) parts.items) }
+{
+    let mut parts = Vec::with_capacity(alloc, transactions.len())?;
+    let mut items = items.into_iter();
+    let mut reasons = reasons.into_iter();
+    let _ = (items.next(), reasons.next());
+    for blocks in transactions {
+        let own_items = items.next().unwrap_or(Vec::new(alloc));
+        let own_reasons = reasons.next().unwrap_or(Vec::new(alloc));
+        let numbers = NewNumbers {
+            items: but_places(alloc, own_items),
+            reasons: but_places(alloc, own_reasons),
+        };
+        parts.push(Part { numbers, blocks })?;
     }
     Ok(parts)
 }
 
-/// Puts what was read of ranges alone after one another. Threads give the items and the reasons of
-/// the ranges their new numbers.
+/// What was read of ranges, put together: the transactions, what was counted, and the texts of the
+/// items and of the reasons by their numbers.
+#[derive(Drop)]
+pub struct MergedRanges {
+    pub transactions: Vec<Block>,
+    pub counts: Counts,
+    pub items: Vec<String>,
+    pub reasons: Vec<String>,
+}
+
+/// Puts what was read of ranges alone after one another, and after the head, up to which the state
+/// is. Threads look for the texts that earlier ranges have, too, and give the items and the reasons
+/// of the ranges their new numbers.
 ///
 /// [`Stop::OtherForm`] where a document may not have so much of something.
 pub fn merge_ranges<T: Threads + Sync>(
@@ -162,17 +216,33 @@ pub fn merge_ranges<T: Threads + Sync>(
     alloc: Global,
     reads: Vec<RangeRead>,
     declared: &Declared,
-    state: &mut ReaderState,
-) -> Result<Vec<Block>, Stop>
-    requires { scope_of state.old.labels.entries ≡ [] }
-    ensures read { IfOk result (λ blocks. AreMerged (setting_of declared.now) reads.items
-        (reached state.old []) (reached state.new (map block_view blocks.items))) }
-    ensures few { IfOk result (λ blocks. length blocks.items
+    state: ReaderState,
+) -> Result<MergedRanges, Stop>
+    ensures read { IfOk result (λ merged. AreMerged (setting_of declared.now) reads.items
+        (reached state []) (reached_by merged)) }
+    ensures few { IfOk result (λ merged. length merged.transactions.items
         ≤ (limits_of declared.now.version).transactions) }
-    ensures scope { IfOk result (λ _. scope_of state.new.labels.entries ≡ []) }
 {
-    let mut parts = place_ranges(alloc, reads, declared, state)?;
+    let texts = state
+        .numbering
+        .items
+        .len()
+        .max(state.numbering.reasons.len());
+    if texts > MOST_TEXTS {
+        return Err(Stop::OtherForm);
+    }
+    let mut counts = state.counts;
+    count_ranges(&reads, declared.version, &mut counts)?;
+    let split = split_reads(alloc, state.numbering, reads)?;
+    let items = merge_tables(threads, alloc, split.items)?;
+    let reasons = merge_tables(threads, alloc, split.reasons)?;
+    let mut parts = parts_of(alloc, split.transactions, items.numbers, reasons.numbers)?;
     renumber_parts(threads, &mut parts);
-    let blocks = append_parts(alloc, parts)?;
-    Ok(blocks)
+    let transactions = append_parts(alloc, parts)?;
+    Ok(MergedRanges {
+        transactions,
+        counts,
+        items: items.texts,
+        reasons: reasons.texts,
+    })
 }

@@ -9,8 +9,12 @@ pub mod PulledDocument
 pub mod PulledHandlers
 pub mod PassLemmas
 pub mod NoteLemmas
+pub mod CountLemmas
+pub mod LengthLemmas
+pub mod NoListLemmas
 pub mod LongerLemmas
 pub mod RangeLemmas
 pub mod HeldLemmas
 pub mod EntryLemmas
 pub mod ObjectLemmas
+pub mod HeadLemmas

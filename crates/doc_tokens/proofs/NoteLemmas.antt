@@ -95,8 +95,8 @@ module _ (notes : Notes) (k : List ℕ) (d : Data) (ms : Members) (seen : Passed
         (apart (codes "transactions") (codes "ordtx") k refl named) noted.transactions;
   }
 
-  pub objects_noted : k ≡ codes "objects" → IsNoted (record notes { objects = Some seen }) (put k d ms)
-  objects_noted named = record {
+  pub objects_noted : k ≡ codes "objects" → (n : ℕ) → IsNoted (record notes { objects = Some seen; objects_times = n }) (put k d ms)
+  objects_noted named n = record {
     only = among_still k d ms notes.only (ap (λ n. is_among n (member_names form.Document)) named) noted.only;
     version = kept_at (codes "ordtx") k d ms notes.version (apart (codes "ordtx") (codes "objects") k refl named) noted.version;
     objects = noted_at (codes "objects") k d ms seen (sym named) is;
@@ -104,8 +104,9 @@ module _ (notes : Notes) (k : List ℕ) (d : Data) (ms : Members) (seen : Passed
         (apart (codes "transactions") (codes "objects") k refl named) noted.transactions;
   }
 
-  pub transactions_noted : k ≡ codes "transactions" → IsNoted (record notes { transactions = Some seen }) (put k d ms)
-  transactions_noted named = record {
+  pub transactions_noted : k ≡ codes "transactions" → (n : ℕ)
+      → IsNoted (record notes { transactions = Some seen; transactions_times = n }) (put k d ms)
+  transactions_noted named n = record {
     only = among_still k d ms notes.only (ap (λ n. is_among n (member_names form.Document)) named) noted.only;
     version = kept_at (codes "ordtx") k d ms notes.version
         (apart (codes "ordtx") (codes "transactions") k refl named) noted.version;

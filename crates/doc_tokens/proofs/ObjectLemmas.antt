@@ -29,8 +29,8 @@ use Rattle.doc_tree.specs.declared.counts.Counts.{Counts}
 use Rattle.doc_tree.proofs.ListLemmas.{in_front, in_front_none, in_front_push, kinds_of_starts, same_setting}
 use Rattle.doc_tree.proofs.PlaceLemmas.{own_first, part_met}
 use Rattle.vocabulary.specs.Words.{kind_of_text}
-use Rattle.doc_tokens.specs.Pulled.{ReadsItems, ReadsMembers, ReadsValue}
-use Rattle.doc_tokens.specs.PulledObjects.{declaration}
+use Rattle.doc_tokens.specs.Pulled.{ReadsItems, ReadsMembers, ReadsValue, first_key}
+use Rattle.doc_tokens.specs.PulledObjects.{begun_by, declaration}
 use Rattle.doc_tokens.proofs.PulledLemmas.{reads_item, reads_member, reads_no_items, reads_no_members, reads_object, reads_string}
 
 -- ---- an object in the common form
@@ -57,34 +57,32 @@ module _ (version : ℕ) (name text : List ℕ) (v : Data) (k : Kind) (known : k
 
 -- ---- its tokens
 
--- an object whose first member is its name
-pub named_read : (name : List ℕ) (now new : List Token) (ms : Members)
-    → ReadsMembers 124 (put (codes "name") (string name) no_members) now ms new
-    → ReadsValue 125 (Token.begin_object ∷ Token.key (codes "name") ∷ Token.string name ∷ now) (object ms) new
-named_read name now new ms reads =
-    let old = Token.key (codes "name") ∷ Token.string name ∷ now in
-    reads_object 124 old ms new (reads_member 124 no_members (codes "name") old (Token.string name ∷ now) now new (string name) ms refl
-    (omega arith) (reads_string 124 name now) reads)
+-- an object whose first member is a text
+pub first_read : (a s : List ℕ) (now new : List Token) (ms : Members) → ReadsMembers 124 (put a (string s) no_members) now ms new
+    → ReadsValue 125 (first_key a (Token.string s ∷ now)) (object ms) new
+first_read a s now new ms reads =
+    let old = Token.key a ∷ Token.string s ∷ now in
+    reads_object 124 old ms new (reads_member 124 no_members a old (Token.string s ∷ now) now new (string s) ms refl (omega arith)
+    (reads_string 124 s now) reads)
 
--- and whose second member is its kind
-pub both_read : (name text : List ℕ) (now new : List Token) (ms : Members)
-    → ReadsMembers 124 (put (codes "kind") (string text) (put (codes "name") (string name) no_members)) now ms new
-    → ReadsValue 125 (Token.begin_object ∷ Token.key (codes "name") ∷ Token.string name ∷ Token.key (codes "kind") ∷ Token.string text
-    ∷ now) (object ms) new
-both_read name text now new ms reads =
-    let old = Token.key (codes "kind") ∷ Token.string text ∷ now in
-    named_read name old new ms (reads_member 124 (put (codes "name") (string name) no_members) (codes "kind") old (Token.string text ∷ now)
-    now new (string text) ms refl (omega arith) (reads_string 124 text now) reads)
+-- and whose second member is one
+pub both_read : (a b s t : List ℕ) (now new : List Token) (ms : Members)
+    → ReadsMembers 124 (put b (string t) (put a (string s) no_members)) now ms new
+    → ReadsValue 125 (first_key a (Token.string s ∷ Token.key b ∷ Token.string t ∷ now)) (object ms) new
+both_read a b s t now new ms reads =
+    let old = Token.key b ∷ Token.string t ∷ now in
+    first_read a s old new ms (reads_member 124 (put a (string s) no_members) b old (Token.string t ∷ now) now new (string t) ms refl
+    (omega arith) (reads_string 124 t now) reads)
 
 -- and whose third and last is its start
-pub common_read : (name text : List ℕ) (v : Data) (now rest : List Token) → ReadsValue 124 now v (Token.end_object ∷ rest)
-    → ReadsValue 125 (Token.begin_object ∷ Token.key (codes "name") ∷ Token.string name ∷ Token.key (codes "kind") ∷ Token.string text
-    ∷ Token.key (codes "start") ∷ now) (declaration name text v) rest
-common_read name text v now rest reads =
+pub common_read : (a b s t : List ℕ) (v : Data) (now rest : List Token) → ReadsValue 124 now v (Token.end_object ∷ rest)
+    → ReadsValue 125 (first_key a (Token.string s ∷ Token.key b ∷ Token.string t ∷ Token.key (codes "start") ∷ now))
+    (begun_by a b s t v) rest
+common_read a b s t v now rest reads =
     let old = Token.key (codes "start") ∷ now in
-    let found = put (codes "kind") (string text) (put (codes "name") (string name) no_members) in
+    let found = put b (string t) (put a (string s) no_members) in
     let ms = put (codes "start") v found in
-    both_read name text old rest ms (reads_member 124 found (codes "start") old now (Token.end_object ∷ rest) rest v ms refl (omega arith)
+    both_read a b s t old rest ms (reads_member 124 found (codes "start") old now (Token.end_object ∷ rest) rest v ms refl (omega arith)
     reads (reads_no_members 124 ms (Token.end_object ∷ rest) rest refl))
 
 -- ---- what it starts with

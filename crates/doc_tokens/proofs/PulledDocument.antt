@@ -1,44 +1,18 @@
 -- A document whose members come in the common order.
-use Rattle.std.proofs.Common.{◌≡◌, ◌≤◌, ◌<◌, ℕ, Bool, true, false, List, [], ◌∷◌, ◌++◌, Some, refl, sym, ap, subst, ◌∙◌}
+use Rattle.std.proofs.Common.{◌≡◌, ◌≤◌, ◌<◌, ℕ, [], Some, refl, ◌∙◌}
 use Rattle.std.proofs.Common.{arith, lt-ltb, le-leb}
 use Rattle.std.specs.Prelude.{codes}
-use Rattle.serde_json.specs.Data.{Items, array, put}
+use Rattle.serde_json.specs.Data.{Items}
 use Rattle.serde_json.specs.Events.{items_len}
 use Rattle.doc_tree.specs.declared.counts.Counts.{Counts}
 use Rattle.doc_tree.specs.Answer.{AreMet, IsMet}
-use Rattle.doc_cuts.specs.Whole.{is_left}
-use Rattle.json.specs.Token.{Token}
-use Rattle.doc_tokens.specs.Pulled.{Begins, ReadsItems, ReadsMembers, ReadsValue, before_transactions, in_order}
-use Rattle.doc_tokens.proofs.LongerLemmas.{items_left, items_longer}
-use Rattle.doc_tokens.proofs.PulledLemmas.{reads_array, reads_member, reads_no_members}
+use Rattle.doc_tokens.specs.Pulled.{in_order}
 use Rattle.doc_tree.specs.Asked.{declared_by, document_shape_asked, setting_in, version_in}
 use Rattle.doc_tree.specs.Asked.{version_of}
 use Rattle.doc_rules.specs.Limits.{limits_of}
 use Rattle.doc_rules.specs.declared.limits.TheConstants.{LAST_VERSION}
 use Rattle.doc_tree.specs.Places.{inside, member_named, nothing, objects_placed, placed, transactions_placed}
 use Rattle.doc_tree.proofs.PlaceLemmas.{own_first, part_met}
-
--- once its objects and the key of its transactions were read
-pub document_read : (version : ℕ) (old r2 r3 r4 : List Token) (os : Items) → Begins version old r2 → ReadsItems 125 r2 os r3
-    → r3 ≡ Token.key (codes "transactions") ∷ r4 → (later within : List Token) (ts : Items) (rest : List Token)
-    → r4 ++ later ≡ Token.begin_array ∷ within → ReadsItems 125 within ts (Token.end_object ∷ rest)
-    → ReadsValue 127 (old ++ later) (in_order version os ts) rest
-document_read version old r2 r3 r4 os begins reads keyed later within ts rest is more =
-    let m2 = before_transactions version os in
-    let m3 = put (codes "transactions") (array ts) m2 in
-    let after : r3 ++ later ≡ Token.key (codes "transactions") ∷ Token.begin_array ∷ within =
-    ap (λ l. l ++ later) keyed ∙ ap (λ l. Token.key (codes "transactions") ∷ l) is in
-    begins os m3 later (r3 ++ later) rest (items_longer 125 r2 r3 later os reads)
-    (subst (λ l. ReadsMembers 126 m2 l m3 rest) (sym after)
-    (reads_member 126 m2 (codes "transactions") (Token.key (codes "transactions") ∷ Token.begin_array ∷ within)
-    (Token.begin_array ∷ within) (Token.end_object ∷ rest) rest (array ts) m3 refl (omega arith)
-    (reads_array 125 within ts (Token.end_object ∷ rest) more) (reads_no_members 126 m3 (Token.end_object ∷ rest) rest refl)))
-
--- what is left after them says what is left before
-pub document_left : (r2 r3 r4 : List Token) (os : Items) → ReadsItems 125 r2 os r3 → r3 ≡ Token.key (codes "transactions") ∷ r4
-    → (v : Bool) → is_left v false r4 ≡ true → is_left v false r2 ≡ true
-unfolding is_left
-document_left r2 r3 r4 os reads keyed v left = items_left 125 r2 r3 os reads v (ap (is_left v true) keyed ∙ left) false
 
 module _ (version : ℕ) (os ts : Items) (some : 1 ≤ version) (known : version ≤ LAST_VERSION) where
   pub version_read : version_of (in_order version os ts) ≡ Some version

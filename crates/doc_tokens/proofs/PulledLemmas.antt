@@ -1,7 +1,7 @@
 -- How readings of parts make the reading of the whole.
 use Rattle.std.proofs.Common.{◌≡◌, ℕ, suc, ◌-◌, ◌<◌, ◌≤◌, List, [], ◌∷◌, ◌++◌, length, Bool, Option, Some, None, option_map}
 use Rattle.std.proofs.Common.{option_and_then, refl, ap, ◌∙◌, arith}
-use Rattle.std.specs.Prelude.{IfOk, Result, Ok, Err}
+use Rattle.std.specs.Prelude.{IfErr, IfOk, Result, Ok, Err}
 use Rattle.std.specs.Result.{result_ok}
 use Rattle.std.proofs.lemmas.Result.{IfOk-weaker}
 use Rattle.json.specs.Token.{Token}
@@ -19,6 +19,10 @@ use Rattle.doc_tokens.specs.Pulled.{ReadsValue, ReadsItems, ReadsMembers}
 -- what follows from what holds of a value holds of it
 pub IfOk_then : {X E : Type 0} (r : Result X E) {P Q : X → Type 0} → IfOk r P → ((x : X) → P x → Q x) → IfOk r Q
 IfOk_then r {P} {Q} h f = IfOk-weaker r P Q f h
+
+pub IfErr_then : {X E : Type 0} (r : Result X E) {P Q : E → Type 0} → IfErr r P → ((e : E) → P e → Q e) → IfErr r Q
+IfErr_then (Ok x) h f = tt
+IfErr_then (Err e) h f = f e h
 
 -- an option is the value that a result of it holds
 pub IfOk_some : {X E : Type 0} (o : Option X) (r : Result X E) → o ≡ result_ok r → IfOk r (λ x. o ≡ Some x)

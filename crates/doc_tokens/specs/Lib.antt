@@ -3,3 +3,4 @@ pub mod PulledBlocks
 pub mod PulledObjects
 pub mod Passed
 pub mod Ranges
+pub mod Heads

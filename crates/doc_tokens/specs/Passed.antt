@@ -1,6 +1,11 @@
 -- What is noted of a document's values where they are passed.
-use Rattle.std.specs.Prelude.{◌≡◌, ℕ, ℤ, [], ◌∷◌, List, Option, Some, None, codes, is_some, nat_le, option_map, unwrap_or}
-use Rattle.serde_json.specs.Data.{Data, Members, null, boolean, number, string, array, object}
+use Rattle.std.specs.Prelude.{◌≡◌, ℕ, ℤ, ◌+◌, [], ◌∷◌, List, length, Option, Some, None, codes, is_some, nat_le, option_map, unwrap_or}
+use Rattle.std.specs.Prelude.{if◌then◌else◌}
+use Rattle.std.specs.Str.{bytes_eq}
+use Rattle.json.specs.Json as json
+use Rattle.json.specs.Token.{Token}
+use Rattle.serde_json.specs.Read.{of_members}
+use Rattle.serde_json.specs.Data.{Data, Members, no_members, null, boolean, number, string, array, object}
 use Rattle.serde_json.specs.Events.{items_len}
 use Rattle.serde_json.specs.Find.{as_i64, as_object, get_member}
 use Rattle.doc_tree.specs.Scope.{fit}
@@ -44,6 +49,47 @@ pub record IsNoted (notes : Notes) (ms : Members) : Type 0 where
 abbrev pub AreNoted : Option Notes → Data → Type 0
 AreNoted None d = as_object d ≡ None
 AreNoted (Some notes) d = (ms : Members) × (d ≡ object ms) × IsNoted notes ms
+
+-- ---- how often a name comes
+
+abbrev pub once : List ℕ → List ℕ → ℕ
+once k name = if bytes_eq k name then 1 else 0
+
+-- how often a name comes among members, as they are written
+abbrev pub times : List ℕ → json.Members → ℕ
+times name json.no_members = 0
+times name (json.member k j js) = once k name + times name js
+
+pub record AreTimes (notes : Notes) (js : json.Members) : Type 0 where
+  pub objects : notes.objects_times ≡ fit (times (codes "objects") js)
+  pub transactions : notes.transactions_times ≡ fit (times (codes "transactions") js)
+
+-- how often the two lists come is noted of the object that the tokens begin with
+pub record AreCounted (notes : Notes) (old : List Token) : Type 0 where
+  pub within : List Token
+  pub written : json.Members
+  pub rest : List Token
+  pub begins : old ≡ Token.begin_object ∷ within
+  pub reads : json.members (json.value 126) (length within) within ≡ Some (written, rest)
+  pub counted : AreTimes notes written
+
+-- The tokens begin with the members that are left of an object, among which a name comes so often. With those found before they
+-- make these members.
+pub record HasLeft (name : List ℕ) (count : ℕ) (found : Members) (old : List Token) (ms : Members) : Type 0 where
+  pub turns : ℕ
+  pub written : json.Members
+  pub rest : List Token
+  pub reads : json.members (json.value 126) turns old ≡ Some (written, rest)
+  pub makes : of_members written found ≡ Some ms
+  pub often : times name written ≡ count
+
+-- the tokens begin with an object of these members, as which a name comes so often
+pub record HasMembers (name : List ℕ) (count : ℕ) (old : List Token) (ms : Members) : Type 0 where
+  pub within : List Token
+  pub begins : old ≡ Token.begin_object ∷ within
+  pub left : HasLeft name count no_members within ms
+
+-- ---- by what is noted
 
 abbrev pub noted_version : Option PassedValue → Option ℕ
 noted_version None = None

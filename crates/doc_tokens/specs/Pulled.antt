@@ -1,5 +1,5 @@
 -- What is taken from the tokens of a text, as the data that `serde_json` reads from them.
-use Rattle.std.specs.Prelude.{⊤, ◌≡◌, ◌≤◌, ◌∷◌, ◌++◌, ℕ, Bool, List, length, Option, Some, None, codes, nat_le, true}
+use Rattle.std.specs.Prelude.{⊤, ◌≡◌, ◌≤◌, ◌⊎◌, ◌∷◌, ℕ, Bool, List, length, Option, Some, None, codes, nat_le, true}
 use Rattle.std.proofs.Common.{Less}
 use Rattle.std.specs.Ordering.{nat_cmp}
 use Rattle.std.specs.Cmp.Lexicographic.{slice_cmp}
@@ -10,6 +10,8 @@ use Rattle.serde_json.specs.Read.{of_json, of_items, of_members, converted}
 use Rattle.doc_tree.specs.Scope.{Numbers}
 use Rattle.doc_tree.specs.Spelled.{reason_of, spelled_map}
 use Rattle.doc_tree.specs.Asked.{has_fills}
+use Rattle.doc_tokens.specs.declared.stop.Stop.{Stop}
+use Rattle.doc_tokens.specs.declared.stop.Stop.TheVariants.{NoMemory}
 use Rattle.meaning.specs.declared.template.Refusal.{Refusal}
 use Rattle.meaning.specs.declared.template.Refusal.TheVariants.{GoesOn, Aborts}
 
@@ -27,6 +29,22 @@ ReadsItems k old ds new = (depth n : ℕ) → k ≤ depth → length old ≤ n
 abbrev pub ReadsMembers : ℕ → Members → List Token → Members → List Token → Type 0
 ReadsMembers k found old ms new = (depth n : ℕ) → k ≤ depth → length old ≤ n
     → converted (λ js. of_members js found) (json.members (json.value depth) n old) ≡ Some (ms, new)
+
+-- reading stops so for want of memory, or where nothing is read
+abbrev pub StopsFor : {A : Type 0} → Stop → Option A → Type 0
+StopsFor stop read = (stop ≡ NoMemory) ⊎ (read ≡ None)
+
+-- ---- of a text that is known to be read
+
+-- the tokens begin with a value that nests no deeper than k
+abbrev pub WritesValue : ℕ → List Token → Data → Type 0
+WritesValue k old d = (rest : List Token) × (converted of_json (json.value k old) ≡ Some (d, rest))
+
+-- the tokens begin with the items of an array up to its end, and `rest` are left
+abbrev pub WritesItems : ℕ → List Token → Items → List Token → Type 0
+WritesItems k old ds rest = (n : ℕ) × (converted of_items (json.items (json.value k) n old) ≡ Some (ds, rest))
+
+-- ---- objects
 
 -- the tokens of an object whose first key is this, before those that follow the key
 abbrev pub first_key : List ℕ → List Token → List Token
@@ -126,8 +144,3 @@ before_transactions version os = put (codes "objects") (array os) (put (codes "o
 -- a document by its version, its objects and its transactions, where its members come in this order
 abbrev pub in_order : ℕ → Items → Items → Data
 in_order version os ts = object (put (codes "transactions") (array ts) (before_transactions version os))
-
--- The tokens `old` begin a document of a version, up to the bracket that begins its objects; `new` are left.
-abbrev pub Begins : ℕ → List Token → List Token → Type 0
-Begins version old new = (os : Items) (ms : Members) (later mid rest : List Token) → ReadsItems 125 (new ++ later) os mid
-    → ReadsMembers 126 (before_transactions version os) mid ms rest → ReadsValue 127 (old ++ later) (object ms) rest

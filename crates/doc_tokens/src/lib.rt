@@ -3,6 +3,8 @@
 #![tactic(auto)]
 
 mod digits;
+mod head;
+pub mod members;
 pub mod notes;
 pub mod pass;
 pub mod pull;

@@ -1,15 +1,17 @@
 //! What is noted of the members of a document, without a tree.
-ghost use Rattle.std.specs.Prelude.{◌≡◌, ◌≤◌, length, None, Some, Ok, IfErr, IfOk, OnOk, true};
+ghost use Rattle.std.specs.Prelude.{◌≡◌, ◌+◌, ℕ, codes, length, None, Some, Ok, IfErr, IfOk, IfSome, OnOk, true};
+ghost use Rattle.json.specs.Json as json;
 ghost use Rattle.json.specs.Json.{members, value};
 ghost use Rattle.serde_json.specs.Data.{Data, Members, no_members, put};
 ghost use Rattle.serde_json.specs.Read.{converted, of_json, of_members};
 ghost use Rattle.doc_tree.specs.Demand.{check, no_counts};
 ghost use Rattle.doc_tree.specs.Places.{fault_in, here};
 ghost use Rattle.faults.specs.Faults.{is_of_reading};
-ghost use Rattle.doc_tokens.specs.Passed.{AreNoted, IsNoted, noted_asked, noted_count, noted_version, seen_as, version_in_notes};
+ghost use Rattle.doc_tree.specs.Scope.{fit};
+ghost use Rattle.doc_tokens.specs.Passed.{AreCounted, AreNoted, AreTimes, IsNoted, noted_asked, noted_count, noted_version, once, seen_as, version_in_notes};
 ghost use Rattle.doc_tokens.specs.Pulled.{ReadsMembers, ReadsValue};
 
-use crate::pass::{PassedValue, pass_from, pass_value};
+use crate::pass::{PassedValue, one_more, pass_from, pass_value};
 use doc_rules::{LAST_VERSION, Limits};
 use faults::{Fault, Wrong};
 use json::{Invalid, Reader, Token};
@@ -25,24 +27,35 @@ pub struct Notes {
     version: Option<PassedValue>,
     objects: Option<PassedValue>,
     transactions: Option<PassedValue>,
+    /// How often `objects` comes; the greatest number stands for more, too.
+    pub objects_times: u32,
+    /// How often `transactions` comes, likewise.
+    pub transactions_times: u32,
 }
 
 impl Notes {
     fn none() -> Notes
-        ensures { IsNoted result no_members }
+        ensures noted { IsNoted result no_members }
+        ensures times { (result.objects_times ≡ fit 0) × (result.transactions_times ≡ fit 0) }
     {
         Notes {
             only: true,
             version: None,
             objects: None,
             transactions: None,
+            objects_times: 0,
+            transactions_times: 0,
         }
     }
 
     /// What is noted once a member has been passed.
     fn with(self, name: &str, seen: PassedValue) -> Notes
-        ensures { (d : Data) (ms : Members) → seen ≡ seen_as d → IsNoted self ms
+        ensures noted { (d : Data) (ms : Members) → seen ≡ seen_as d → IsNoted self ms
             → IsNoted result (put name.now d ms) }
+        ensures objects { (k : ℕ) → self.objects_times ≡ fit k
+            → result.objects_times ≡ fit (k + once name.now (codes "objects")) }
+        ensures transactions { (k : ℕ) → self.transactions_times ≡ fit k
+            → result.transactions_times ≡ fit (k + once name.now (codes "transactions")) }
     {
         if name == "ordtx" {
             return Notes {
@@ -53,12 +66,14 @@ impl Notes {
         if name == "objects" {
             return Notes {
                 objects: Some(seen),
+                objects_times: one_more(self.objects_times),
                 ..self
             };
         }
         if name == "transactions" {
             return Notes {
                 transactions: Some(seen),
+                transactions_times: one_more(self.transactions_times),
                 ..self
             };
         }
@@ -73,6 +88,9 @@ impl Notes {
 fn note_members(reader: &mut Reader<'_>) -> Result<Notes, Invalid>
     ensures ok { IfOk result (λ notes. (ms : Members)
         × ReadsMembers 126 no_members reader.old ms reader.new × IsNoted notes ms) }
+    ensures counted { IfOk result (λ notes. (js : json.Members)
+        × (members (value 126) (length reader.old) reader.old ≡ Some (js, reader.new))
+        × AreTimes notes js) }
     ensures err { IfErr result (λ _. converted (λ js.
         of_members js no_members) (members (value 126) (length reader.old) reader.old) ≡ None) }
 {
@@ -88,6 +106,8 @@ fn note_members(reader: &mut Reader<'_>) -> Result<Notes, Invalid>
 pub fn note_value(reader: &mut Reader<'_>) -> Result<Option<Notes>, Invalid>
     ensures ok { IfOk result (λ notes. (d : Data)
         × ReadsValue 127 reader.old d reader.new × AreNoted notes d) }
+    ensures counted { IfOk result (λ noted. IfSome noted (λ notes. AreCounted notes
+        reader.old)) }
     ensures err { IfErr result (λ _. converted of_json (value 127 reader.old) ≡ None) }
 {
     let token = reader.next().ok_or(Invalid)?;

@@ -26,7 +26,7 @@ pub enum PassedValue {
 }
 
 /// The count with one more, or the greatest number.
-fn one_more(count: u32) -> u32
+pub(crate) fn one_more(count: u32) -> u32
     ensures { (k : ℕ) → count ≡ fit k → result ≡ fit (k + 1) }
 {
     if count < 4_294_967_295 {
@@ -48,7 +48,7 @@ pub(crate) fn pass_value(reader: &mut Reader<'_>, depth: usize) -> Result<Passed
 
 /// A value whose first token has been read.
 #[cycle(pass)]
-pub fn pass_from(
+pub(crate) fn pass_from(
     token: Token<'_>,
     reader: &mut Reader<'_>,
     depth: usize,
@@ -86,7 +86,7 @@ pub fn pass_from(
 
 /// The items of an array whose beginning has been read, with its end: how many they are.
 #[cycle(pass)]
-pub fn pass_items(reader: &mut Reader<'_>, depth: usize) -> Result<u32, Invalid>
+fn pass_items(reader: &mut Reader<'_>, depth: usize) -> Result<u32, Invalid>
     ensures ok { IfOk result (λ count. (ds : Items)
         × ReadsItems depth reader.old ds reader.new × (count ≡ fit (items_len ds))) }
     ensures err { IfErr result

@@ -4,26 +4,25 @@
 //! memory was refused, or the tokens are out of the common form. The document is then read otherwise
 //! (`document` of `lang`), which finds faults.
 //!
-//! The common form: the members `ordtx`, `objects` and `transactions` in this order; an object's
-//! members as `pull_objects` says, and a step's as `pull_blocks` says; in steps, numbers without a
-//! point or an exponent.
-ghost use Rattle.std.specs.Prelude.{◌≡◌, ℕ, Bool, List, ◌∷◌, ◌++◌, [], codes, length, option_map, false, true, Some, None, IfOk, IfSome, OnOk, ◌<◌, ◌+◌, ◌≤◌};
+//! The common form: a document's members as `head` says, an object's as `pull_objects` says, and a
+//! step's as `pull_blocks` says; in steps, numbers without a point or an exponent.
+ghost use Rattle.std.specs.Prelude.{◌≡◌, ℕ, Bool, List, ◌∷◌, [], codes, length, option_map, false, true, Some, None, IfErr, IfOk, IfSome, OnOk, ◌<◌, ◌+◌, ◌≤◌};
+ghost use Rattle.json.specs.Json.{items, members, value};
 ghost use Rattle.json.specs.Reads.{token_of};
 ghost use Rattle.json.specs.Token as token;
 ghost use Rattle.fast_float.specs.Text.{with_sign};
 ghost use Rattle.serde_json.specs.Data.{Data, Items, Members, Num, member, negative, number, object, unsigned};
 ghost use Rattle.serde_json.specs.Find.{as_i64, at, of_integer};
-ghost use Rattle.serde_json.specs.Read.{number_of};
+ghost use Rattle.serde_json.specs.Read.{converted, number_of, of_items, of_json, of_members};
 ghost use Rattle.serde_json.specs.View.{items_view, members_view, view};
 ghost use Rattle.doc_tree.specs.Asked.{amount_asked, argument_asked, arguments_asked, has_fills, index_of, reason_asked, subject_of};
 ghost use Rattle.doc_tree.specs.Answer.{IsMet};
-ghost use Rattle.doc_tokens.specs.Pulled.{Begins, ReadsItems, ReadsMembers, ReadsValue, first_key, in_order, labelled, may_abort, op_array, reason_in, refusal_told, with_abort};
+ghost use Rattle.doc_tokens.specs.Pulled.{ReadsItems, ReadsMembers, ReadsValue, StopsFor, first_key, labelled, may_abort, op_array, reason_in, refusal_told, with_abort};
 ghost use Rattle.doc_tokens.specs.PulledBlocks.{SpellsPlainStep};
 ghost use Rattle.doc_tree.specs.Scope.{Numbers, is_named, label_number, numbers_of, scope_of};
 ghost use Rattle.doc_tree.specs.Spelled.{argument_of, template_of};
 ghost use Rattle.doc_rules.specs.declared.rule.OperandPlace.{OperandPlace};
 ghost use Rattle.batch.specs.Names.{is_name};
-ghost use Rattle.doc_rules.specs.Limits.{limits_of};
 ghost use Rattle.doc_rules.specs.declared.limits.TheConstants.{LAST_VERSION};
 ghost use Rattle.doc_cuts.specs.Whole.{is_left};
 
@@ -31,7 +30,7 @@ use crate::digits::{FEW_DIGITS, few_digits};
 use crate::stop::Stop;
 use atoms::Amount;
 use batch::{Step, is_name};
-use doc_rules::{LAST_VERSION, Limits, NameRule, Subject, fits_item, fits_number};
+use doc_rules::{LAST_VERSION, NameRule, Subject, fits_item, fits_number};
 use doc_tree::arguments::{has_fills, item_of, item_template, pair_template};
 use doc_tree::counts::Counts;
 use doc_tree::declared::Declared;
@@ -172,7 +171,7 @@ pub(crate) fn pull_end_array(reader: &mut Reader<'_>) -> Result<(), Stop>
 }
 
 /// The end of an object, as the next token. [`Stop::OtherForm`] where the next token is another.
-pub fn pull_end_object(reader: &mut Reader<'_>) -> Result<(), Stop>
+pub(crate) fn pull_end_object(reader: &mut Reader<'_>) -> Result<(), Stop>
     ensures { IfOk result (λ _. reader.old ≡ token.end_object ∷ reader.new) }
 {
     match reader.next() {
@@ -182,7 +181,7 @@ pub fn pull_end_object(reader: &mut Reader<'_>) -> Result<(), Stop>
 }
 
 /// That no token is left. [`Stop::OtherForm`] where one is.
-pub fn pull_end(reader: &mut Reader<'_>) -> Result<(), Stop>
+pub(crate) fn pull_end(reader: &mut Reader<'_>) -> Result<(), Stop>
     ensures { IfOk result (λ _. reader.old ≡ []) }
 {
     match reader.next() {
@@ -496,8 +495,10 @@ pub(crate) fn pull_operation(
 // ---- values
 
 /// The value of a number's text.
-pub fn number_value(text: &str) -> Result<Value, Stop>
-    ensures { IfOk result (λ v. (x : Num) × (number_of text.now ≡ Some x) × (view v ≡ number x)) }
+pub(crate) fn number_value(text: &str) -> Result<Value, Stop>
+    ensures ok { IfOk result (λ v. (x : Num) × (number_of text.now ≡ Some x) × (view v
+        ≡ number x)) }
+    ensures err { IfErr result (λ _. number_of text.now ≡ None) }
 {
     let number = number_of(text).ok_or(Stop::OtherForm)?;
     Ok(Value::Number(number))
@@ -506,14 +507,33 @@ pub fn number_value(text: &str) -> Result<Value, Stop>
 /// A value that nests no deeper.
 #[cycle(values)]
 pub fn pull_value(alloc: Global, reader: &mut Reader<'_>, depth: usize) -> Result<Value, Stop>
-    ensures { IfOk result (λ v. ReadsValue depth reader.old (view v) reader.new) }
+    ensures ok { IfOk result (λ v. ReadsValue depth reader.old (view v) reader.new) }
+    ensures err { IfErr result (λ stop. StopsFor stop (converted of_json (value depth
+        reader.old))) }
 {
     let token = reader.next().ok_or(Stop::OtherForm)?;
+    value_from(alloc, token, reader, depth)
+}
+
+/// A value whose first token has been read.
+#[cycle(values)]
+pub fn value_from(
+    alloc: Global,
+    token: Token<'_>,
+    reader: &mut Reader<'_>,
+    depth: usize,
+) -> Result<Value, Stop>
+    ensures ok { IfOk result (λ v. ReadsValue depth (token_of token.entry ∷ reader.old) (view v)
+        reader.new) }
+    ensures err { IfErr result (λ stop. StopsFor stop (converted of_json (value depth
+        (token_of token.entry ∷ reader.old)))) }
+{
     match token {
         Token::String(text) => Ok(Value::String(String::from_str(alloc, text)?)),
         Token::Number(text) => number_value(text),
         Token::Bool(holds) => Ok(Value::Bool(holds)),
         Token::Null => Ok(Value::Null),
+        Token::EndObject | Token::EndArray | Token::Key(_) | Token::Bad => Err(Stop::OtherForm),
         Token::BeginArray => {
             if depth == 0 {
                 return Err(Stop::OtherForm);
@@ -526,14 +546,16 @@ pub fn pull_value(alloc: Global, reader: &mut Reader<'_>, depth: usize) -> Resul
             }
             Ok(Value::Object(pull_members(alloc, reader, depth - 1, Map::new(alloc))?))
         }
-        _ => Err(Stop::OtherForm),
     }
 }
 
 /// The items of an array whose beginning has been read, with its end.
 #[cycle(values)]
 fn pull_items(alloc: Global, reader: &mut Reader<'_>, depth: usize) -> Result<Vec<Value>, Stop>
-    ensures { IfOk result (λ list. ReadsItems depth reader.old (items_view list.items) reader.new) }
+    ensures ok { IfOk result (λ list. ReadsItems depth reader.old (items_view list.items)
+        reader.new) }
+    ensures err { IfErr result (λ stop. StopsFor stop (converted of_items (items (value depth)
+        (length reader.old) reader.old))) }
 {
     let mut found = Vec::new(alloc);
     while !reader.take_end_array() {
@@ -544,14 +566,17 @@ fn pull_items(alloc: Global, reader: &mut Reader<'_>, depth: usize) -> Result<Ve
 
 /// The members of an object up to its end, with those that were found before.
 #[cycle(values)]
-pub fn pull_members(
+pub(crate) fn pull_members(
     alloc: Global,
     reader: &mut Reader<'_>,
     depth: usize,
     before: Map<String, Value>,
 ) -> Result<Map<String, Value>, Stop>
-    ensures { IfOk result (λ map. ReadsMembers depth (members_view before.entries) reader.old
+    ensures ok { IfOk result (λ map. ReadsMembers depth (members_view before.entries) reader.old
         (members_view map.entries) reader.new) }
+    ensures err { IfErr result (λ stop. StopsFor stop (converted
+        (λ js. of_members js (members_view before.entries))
+        (members (value depth) (length reader.old) reader.old))) }
 {
     let mut found = before;
     while let Some(name) = reader.next_key()? {
@@ -596,7 +621,8 @@ pub(crate) fn pull_object(
 
 // ---- the document
 
-fn pull_version(reader: &mut Reader<'_>) -> Result<u8, Stop>
+/// The next number, which is a version.
+pub(crate) fn pull_version(reader: &mut Reader<'_>) -> Result<u8, Stop>
     ensures { IfOk result (λ version. (s : List ℕ) × (reader.old ≡ token.number s ∷ reader.new)
         × (number_of s ≡ Some (unsigned version))
         × (1 ≤ version) × (version ≤ LAST_VERSION)) }
@@ -612,53 +638,4 @@ fn pull_version(reader: &mut Reader<'_>) -> Result<u8, Stop>
         }
         _ => Err(Stop::OtherForm),
     }
-}
-
-/// A document up to the bracket that begins its objects: its version.
-pub(crate) fn pull_beginning(reader: &mut Reader<'_>) -> Result<u8, Stop>
-    ensures version { IfOk result (λ version. (1 ≤ version) × (version ≤ LAST_VERSION)) }
-    ensures reads { IfOk result (λ version. Begins version reader.old reader.new) }
-    ensures left { OnOk result ((v : Bool) → is_left v false reader.new ≡ true
-        → is_left v false reader.old ≡ true) }
-{
-    pull_begin_object(reader)?;
-    pull_key(reader, "ordtx")?;
-    let version = pull_version(reader)?;
-    pull_key(reader, "objects")?;
-    pull_begin_array(reader)?;
-    Ok(version)
-}
-
-/// The trees of the objects up to the end of their array, if they are no more than a document may
-/// have.
-fn pull_trees(alloc: Global, reader: &mut Reader<'_>, version: u8) -> Result<Vec<Value>, Stop>
-    ensures reads { IfOk result (λ list. ReadsItems 125 reader.old (items_view list.items)
-        reader.new) }
-    ensures few { IfOk result (λ list. length list.items ≤ (limits_of version).objects) }
-{
-    let mut found = Vec::new(alloc);
-    while !reader.take_end_array() {
-        if found.len() >= Limits::of(version).objects {
-            return Err(Stop::OtherForm);
-        }
-        found.push(pull_value(alloc, reader, PART_DEPTH)?)?;
-    }
-    Ok(found)
-}
-
-/// A document up to where its transactions begin: its version, and of its objects a tree.
-pub fn pull_head(alloc: Global, reader: &mut Reader<'_>) -> Result<(u8, Vec<Value>), Stop>
-    ensures version { IfOk result (λ head. (1 ≤ head.0) × (head.0 ≤ LAST_VERSION)) }
-    ensures objects { IfOk result (λ head. length head.1.items ≤ (limits_of head.0).objects) }
-    ensures reads { IfOk result (λ head. (later : List token.Token) (ts : Items)
-        (rest : List token.Token)
-        → ReadsItems 125 (reader.new ++ later) ts (token.end_object ∷ rest)
-        → ReadsValue 127 (reader.old ++ later)
-        (in_order head.0 (items_view head.1.items) ts) rest) }
-{
-    let version = pull_beginning(reader)?;
-    let objects = pull_trees(alloc, reader, version)?;
-    pull_key(reader, "transactions")?;
-    pull_begin_array(reader)?;
-    Ok((version, objects))
 }

@@ -1,8 +1,8 @@
 //! Reads the objects of a document straight from their tokens.
 //!
-//! The common form of an object: `name`, `kind` and `start`, in this order and each once. Of one
-//! with another member before its start a small tree is made, and read as in any other document. One
-//! with a member after its start is out of form.
+//! The common form of an object: `name`, `kind` and `start`, or `kind`, `name` and `start`, in this
+//! order and each once. Of one with another member before its start a small tree is made, and read
+//! as in any other document. One with a member after its start is out of form.
 //!
 //! Whether an item of a set is new, or a key of a directory, is asked of the set or the directory
 //! itself: one name has one number.
@@ -12,8 +12,8 @@ ghost use Rattle.serde_json.specs.Data.{Data, Items, put, string};
 ghost use Rattle.serde_json.specs.Events.{items_len};
 ghost use Rattle.serde_json.specs.View.{members_view, view};
 ghost use Rattle.batch.specs.Names.{is_name, texts_of};
-ghost use Rattle.doc_tokens.specs.Pulled.{ReadsItems, ReadsValue};
-ghost use Rattle.doc_tokens.specs.PulledObjects.{IsOpened};
+ghost use Rattle.doc_tokens.specs.Pulled.{ReadsItems, ReadsValue, first_key};
+ghost use Rattle.doc_tokens.specs.PulledObjects.{IsOpened, IsOpenedAs};
 ghost use Rattle.doc_tree.specs.Answer.{AreMet, IsMet};
 ghost use Rattle.doc_tree.specs.Asked.{declared_by, kind_in, names_of, number_start, object_name, part, signed_start};
 ghost use Rattle.doc_tree.specs.Demand.{one_more_start};
@@ -26,7 +26,7 @@ ghost use Rattle.std.specs.FinSet as finite_set;
 
 use crate::pull::{
     PART_DEPTH, number_value, pull_begin_array, pull_begin_object, pull_end_array, pull_end_object,
-    pull_more_members, pull_name, pull_some_key, pull_text,
+    pull_more_members, pull_name, pull_object, pull_some_key, pull_text,
 };
 use crate::stop::Stop;
 use atoms::{Directory, Item, ItemSet, Queue};
@@ -261,33 +261,52 @@ fn with_text_member(
     Ok(more)
 }
 
+/// An object whose first key has been read: up to its start, where only texts with these two keys
+/// come before it, or a tree of it. The texts are in the order of the keys.
+fn open_texts<'a>(
+    alloc: Global,
+    first: &str,
+    second: &str,
+    reader: &mut Reader<'a>,
+) -> Result<Opened<'a>, Stop>
+    ensures { IfOk result (IsOpenedAs first.now second.now (first_key first.now reader.old)
+        reader.new) }
+{
+    let text = pull_text(reader)?;
+    let key = pull_some_key(reader)?;
+    if key != second {
+        let one = with_text_member(alloc, Map::new(alloc), first, text)?;
+        let value = pull_more_members(alloc, key, reader, PART_DEPTH - 1, one)?;
+        return Ok(Opened::Other(value));
+    }
+    let other = pull_text(reader)?;
+    let key = pull_some_key(reader)?;
+    if key != "start" {
+        let one = with_text_member(alloc, Map::new(alloc), first, text)?;
+        let both = with_text_member(alloc, one, second, other)?;
+        let value = pull_more_members(alloc, key, reader, PART_DEPTH - 1, both)?;
+        return Ok(Opened::Other(value));
+    }
+    Ok(Opened::Common(text, other))
+}
+
 /// An object up to its start, or a tree of it.
 fn open_object<'a>(alloc: Global, reader: &mut Reader<'a>) -> Result<Opened<'a>, Stop>
     ensures { IfOk result (IsOpened reader.old reader.new) }
 {
     pull_begin_object(reader)?;
-    let none = Map::new(alloc);
     let key = pull_some_key(reader)?;
-    if key != "name" {
-        let value = pull_more_members(alloc, key, reader, PART_DEPTH - 1, none)?;
-        return Ok(Opened::Other(value));
+    match key {
+        "name" => open_texts(alloc, "name", "kind", reader),
+        "kind" => match open_texts(alloc, "kind", "name", reader)? {
+            Opened::Common(kind, name) => Ok(Opened::Common(name, kind)),
+            Opened::Other(value) => Ok(Opened::Other(value)),
+        },
+        _ => {
+            let value = pull_object(alloc, key, reader, PART_DEPTH - 1)?;
+            Ok(Opened::Other(value))
+        }
     }
-    let name = pull_text(reader)?;
-    let key = pull_some_key(reader)?;
-    if key != "kind" {
-        let named = with_text_member(alloc, none, "name", name)?;
-        let value = pull_more_members(alloc, key, reader, PART_DEPTH - 1, named)?;
-        return Ok(Opened::Other(value));
-    }
-    let kind = pull_text(reader)?;
-    let key = pull_some_key(reader)?;
-    if key != "start" {
-        let named = with_text_member(alloc, none, "name", name)?;
-        let both = with_text_member(alloc, named, "kind", kind)?;
-        let value = pull_more_members(alloc, key, reader, PART_DEPTH - 1, both)?;
-        return Ok(Opened::Other(value));
-    }
-    Ok(Opened::Common(name, kind))
 }
 
 /// The value that an object starts with. Its name joins these.

@@ -14,9 +14,9 @@ ghost use Rattle.doc_cuts.specs.Whole.{is_left, is_open};
 ghost use Rattle.doc_tokens.specs.Ranges.{AreRead, IsBegun, IsHead, at_transaction, left_by, reached};
 ghost use Rattle.doc_tree.specs.Scope.{numbers_of, scope_of, setting_of};
 
-use crate::pull::{pull_begin_array, pull_beginning, pull_end, pull_end_object, pull_key};
+use crate::head::pull_declared;
+use crate::pull::{pull_begin_array, pull_end, pull_end_object};
 use crate::pull_blocks::pull_block_begun;
-use crate::pull_objects::pull_objects;
 use crate::stop::Stop;
 use batch::Block;
 use doc_rules::Limits;
@@ -121,38 +121,13 @@ pub fn pull_range(
     pull_document_end(reader)
 }
 
-/// What a document declares, of which the reader is then at its transactions.
-fn pull_declared(
-    alloc: Global,
-    reader: &mut Reader<'_>,
-    state: &mut ReaderState,
-) -> Result<Declared, Stop>
-    requires labels { scope_of state.old.labels.entries ≡ [] }
-    ensures head { IfOk result (λ declared. IsHead reader.old reader.new declared
-        state.old.counts (numbers_of state.old.numbering)
-        state.new.counts (numbers_of state.new.numbering)) }
-    ensures left { OnOk result ((v : Bool) → is_left v false reader.new ≡ true
-        → is_left v false reader.old ≡ true) }
-    ensures scope { OnOk result (scope_of state.new.labels.entries ≡ []) }
-{
-    let version = pull_beginning(reader)?;
-    let declared = pull_objects(
-        alloc,
-        reader,
-        version,
-        &mut state.counts,
-        &mut state.numbering,
-    )?;
-    pull_key(reader, "transactions")?;
-    Ok(declared)
-}
-
 /// The head of a document alone: its version and its objects, up to the bracket that begins its
-/// transactions.
+/// transactions. The reader begins with this text.
 ///
 /// [`Stop::OtherForm`] where anything else comes first, or the bracket or more after it.
 pub fn pull_head_alone(
     alloc: Global,
+    text: &[u8],
     reader: &mut Reader<'_>,
     state: &mut ReaderState,
 ) -> Result<Declared, Stop>
@@ -162,16 +137,18 @@ pub fn pull_head_alone(
     ensures begun { OnOk result (is_open false reader.old ≡ true) }
     ensures scope { OnOk result (scope_of state.new.labels.entries ≡ []) }
 {
-    let declared = pull_declared(alloc, reader, state)?;
+    let declared = pull_declared(alloc, text, reader, state)?;
     pull_end(reader)?;
     Ok(declared)
 }
 
-/// The first range of a document: its version, its objects, and the transactions of the range.
+/// The first range of a document: its version, its objects, and the transactions of the range. The
+/// reader begins with this text.
 ///
 /// [`Stop::OtherForm`] where the range doesn't end after a transaction or the document.
 pub fn pull_first_range(
     alloc: Global,
+    text: &[u8],
     reader: &mut Reader<'_>,
     state: &mut ReaderState,
 ) -> Result<(Parts, RangeEnd), Stop>
@@ -183,7 +160,7 @@ pub fn pull_first_range(
         ≤ (limits_of first.0.declared.version).transactions) }
     ensures scope { IfOk result (λ _. scope_of state.new.labels.entries ≡ []) }
 {
-    let declared = pull_declared(alloc, reader, state)?;
+    let declared = pull_declared(alloc, text, reader, state)?;
     pull_begin_array(reader)?;
     if reader.take_end_array() {
         let end = pull_document_end(reader)?;

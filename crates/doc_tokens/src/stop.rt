@@ -1,4 +1,5 @@
 //! Why a document isn't read from its tokens.
+ghost use Rattle.std.specs.Prelude.{◌≡◌};
 
 use doc_rules::Failure;
 use doc_tree::unmet::Unmet;
@@ -39,18 +40,30 @@ impl From<Invalid> for Stop {
 }
 
 impl From<NoMemory> for Stop {
+    ghost use Rattle.doc_tokens.specs.declared.stop.Stop.TheVariants as stop;
+
+    ghost from_gives = { λ _ given. given ≡ stop.NoMemory };
+
     fn from(_refused: NoMemory) -> Stop {
         Stop::NoMemory
     }
 }
 
 impl From<AllocError> for Stop {
+    ghost use Rattle.doc_tokens.specs.declared.stop.Stop.TheVariants as stop;
+
+    ghost from_gives = { λ _ given. given ≡ stop.NoMemory };
+
     fn from(_refused: AllocError) -> Stop {
         Stop::NoMemory
     }
 }
 
 impl<T: Drop> From<AllocFailed<T>> for Stop {
+    ghost use Rattle.doc_tokens.specs.declared.stop.Stop.TheVariants as stop;
+
+    ghost from_gives = { λ _ given. given ≡ stop.NoMemory };
+
     fn from(_refused: AllocFailed<T>) -> Stop {
         Stop::NoMemory
     }

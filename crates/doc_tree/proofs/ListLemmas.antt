@@ -1,5 +1,5 @@
 -- Lists that are read item by item.
-use Rattle.std.proofs.Common.{◌≡◌, ℕ, ◌+◌, ◌<◌, ◌≤◌, suc, List, [], ◌∷◌, ◌++◌, length, drop, get_or, refl, sym, ap, ◌∙◌, add-one}
+use Rattle.std.proofs.Common.{◌≡◌, ℕ, ◌+◌, ◌<◌, ◌≤◌, List, [], ◌∷◌, ◌++◌, length, drop, get_or, refl, sym, ap, ◌∙◌, add-one}
 use Rattle.std.proofs.Common.{append_assoc}
 use Rattle.std.proofs.Math.Seq.{drop-cons}
 use Rattle.std.proofs.lemmas.List.{append-nil, drop_all}
@@ -43,16 +43,7 @@ all_read spell here numbers whole xs i end none is =
 
 -- ---- objects
 
--- as many as the items that were read
-pub as_many_names : (xs : List Value) → length (names_of (items_view xs)) ≡ length xs
-as_many_names [] = refl
-as_many_names (x ∷ xs) = ap suc (as_many_names xs)
-
-pub as_many_starts : (version : ℕ) (numbers : Numbers) (xs : List Value) → length (starts_of version numbers (items_view xs)).0 ≡ length xs
-as_many_starts version numbers [] = refl
-as_many_starts version numbers (x ∷ xs) =
-    ap suc (as_many_starts version (start_of (kind_in version (view x)) numbers (part (codes "start") (view x))).1 xs)
-
+-- a value that an object starts with is of its kind
 pub kind_of_start : (k : Kind) (numbers : Numbers) (d : Data) → kind_of_value (start_of k numbers d).0 ≡ k
 unfolding start_of
 kind_of_start k numbers d = kind_of_form (form_of k) refl

@@ -1,20 +1,18 @@
 //! Reads the objects.
 ghost use Rattle.std.specs.FinMap as finite_map;
 ghost use Rattle.std.specs.FinSet as finite_set;
-ghost use Rattle.std.specs.Prelude.{◌≡◌, ◌≤◌, ◌++◌, ◌∷◌, [], codes, length, Some, IfErr, IfOk, OnOk};
+ghost use Rattle.std.specs.Prelude.{◌≡◌, ◌++◌, ◌∷◌, [], codes, Some, IfErr, IfOk, OnOk};
 ghost use Rattle.serde_json.specs.View.{items_view, view};
 ghost use Rattle.batch.specs.Names.{texts_of};
 ghost use Rattle.doc_tree.specs.Answer.{AreMet, IsFirst, IsFound, IsMet};
-ghost use Rattle.doc_tree.specs.Asked.{declared_by, element_asked, entry_asked, key_of, kind_in, names_of, number_start, object_kind, object_name, object_name_asked, object_shape_asked, pair_asked, part, signed_start, text_of, value_of};
+ghost use Rattle.doc_tree.specs.Asked.{element_asked, entry_asked, key_of, kind_in, number_start, object_kind, object_name, object_name_asked, object_shape_asked, pair_asked, part, signed_start, text_of, value_of};
 ghost use Rattle.doc_tree.specs.Heads.{new_start_asked, pair_names_asked};
-ghost use Rattle.doc_rules.specs.Limits.{limits_of};
-ghost use Rattle.doc_tree.specs.Places.{elements_placed, entries_placed, object_placed, objects_placed, pairs_placed, form_placed, start_placed};
-ghost use Rattle.doc_tree.specs.Scope.{numbers_of, setting_of, with_item, with_text};
-ghost use Rattle.doc_tree.specs.Spelled.{bind_all, entries_of, item_of, pair_of, pairs_of, put_all, spelled_map, form_start, start_of, starts_of};
+ghost use Rattle.doc_tree.specs.Places.{elements_placed, entries_placed, object_placed, pairs_placed, form_placed, start_placed};
+ghost use Rattle.doc_tree.specs.Scope.{numbers_of, with_item, with_text};
+ghost use Rattle.doc_tree.specs.Spelled.{bind_all, entries_of, item_of, pair_of, pairs_of, put_all, spelled_map, form_start, start_of};
 
 use crate::arguments::{item_of, items_of};
 use crate::counts::Counts;
-use crate::declared::Declared;
 use crate::hashing::TextSet;
 use crate::look::{count, has_only, text_item, text_member};
 use crate::state::{Numbering, add_text};
@@ -24,7 +22,7 @@ use batch::is_name;
 use doc_rules::{Failure, Form, NameRule, Rule, ShapeRule, StartRule};
 use indexmap::IndexSet;
 use meaning::limits::MAX_START;
-use objects::{Kind, Objects, Value as ObjectValue, ValueForm};
+use objects::{Kind, Value as ObjectValue, ValueForm};
 use serde_json::Value;
 use std::alloc::Global;
 use vocabulary::kind_of_text;
@@ -553,64 +551,4 @@ pub fn read_object(
         Ok(start) => Ok(start),
         Err(unmet) => Err(unmet.in_member(alloc, "start")),
     }
-}
-
-/// The values that objects start with. Their names join these.
-fn read_values(
-    alloc: Global,
-    list: &Vec<Value>,
-    version: u8,
-    names: &mut TextSet,
-    counts: &mut Counts,
-    numbering: &mut Numbering,
-) -> Result<Objects, Unmet>
-    ensures met { OnOk result (AreMet counts.old (objects_placed version (texts_of names.old.keys) 0
-        (items_view list.now.items)) counts.new) }
-    ensures unmet { IfErr result (IsFound counts.old (objects_placed version (texts_of
-        names.old.keys) 0 (items_view list.now.items))) }
-    ensures names { OnOk result (texts_of names.new.keys
-        ≡ texts_of names.old.keys ++ names_of (items_view list.now.items)) }
-    ensures objects { IfOk result (λ objects. (objects, numbers_of numbering.new)
-        ≡ starts_of version (numbers_of numbering.old) (items_view list.now.items)) }
-{
-    let mut objects = Objects::new(alloc);
-    for (index, object) in list.iter().enumerate() {
-        match read_object(alloc, object, version, names, counts, numbering) {
-            Ok(value) => objects.push(value)?,
-            Err(unmet) => return Err(unmet.in_item(alloc, index)),
-        }
-    }
-    Ok(objects)
-}
-
-/// The objects that a list spells, with their names in order.
-///
-/// Returns the first demand that isn't met, with its place in the list, or that memory was refused.
-pub fn read_objects(
-    alloc: Global,
-    list: &Vec<Value>,
-    version: u8,
-    counts: &mut Counts,
-    numbering: &mut Numbering,
-) -> Result<Declared, Unmet>
-    requires few { length list.now.items ≤ (limits_of version).objects }
-    ensures met { OnOk result (AreMet counts.old (objects_placed version [] 0 (items_view
-        list.now.items)) counts.new) }
-    ensures unmet { IfErr result (IsFound counts.old (objects_placed version [] 0 (items_view
-        list.now.items))) }
-    ensures names { IfOk result (λ declared. texts_of declared.names.keys
-        ≡ names_of (items_view list.now.items)) }
-    ensures setting { IfOk result (λ declared. setting_of declared
-        ≡ declared_by version (items_view list.now.items)) }
-    ensures objects { IfOk result (λ declared. (declared.objects, numbers_of numbering.new)
-        ≡ starts_of version (numbers_of numbering.old) (items_view list.now.items)) }
-{
-    let mut names = IndexSet::with_capacity_and_hasher(
-        alloc,
-        list.len(),
-        *numbering.items.hasher(),
-    )?;
-    let objects = read_values(alloc, list, version, &mut names, counts, numbering)?;
-    let declared = Declared::new(alloc, version, names, objects)?;
-    Ok(declared)
 }

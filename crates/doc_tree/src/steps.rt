@@ -1,5 +1,5 @@
 //! Reads the steps of a transaction.
-ghost use Rattle.std.specs.Prelude.{◌≡◌, ◌≤◌, [], length, map, codes, option_map, true, false, nat_le, None, Some, unwrap_or, IfErr, IfOk, MatchResult, OnOk};
+ghost use Rattle.std.specs.Prelude.{◌≡◌, [], map, codes, option_map, true, false, nat_le, None, Some, unwrap_or, IfErr, IfOk, MatchResult, OnOk};
 ghost use Rattle.serde_json.specs.Find.{as_str};
 ghost use Rattle.serde_json.specs.View.{items_view, members_view, view};
 ghost use Rattle.meaning.specs.Trees.{for_reasons, handlers_of};
@@ -7,11 +7,9 @@ ghost use Rattle.batch.specs.Views.{block_view, handler_view, otherwise_view, st
 ghost use Rattle.doc_tree.specs.Answer.{AreMet, IsFirst, IsFound, IsMet};
 ghost use Rattle.doc_tree.specs.Asked.{abort_asked, abort_shape_asked, children_in, handlers_are_members, handlers_in, is_abort, label_in, labels_of, parallel_shape_asked, part, scope_after, sort_of, sub_shape_asked};
 ghost use Rattle.doc_tree.specs.Demand.{broken_at};
-ghost use Rattle.doc_rules.specs.Limits.{limits_of};
-ghost use Rattle.doc_tree.specs.Places.{block_placed, block_placed_if, children_placed, handlers_placed, if_placed, inside, member_named, member_placed, members_placed, nothing, parallel_placed, step_placed, steps_placed, sub_placed, transaction_placed, transactions_placed};
+ghost use Rattle.doc_tree.specs.Places.{block_placed, block_placed_if, children_placed, handlers_placed, if_placed, inside, member_named, member_placed, members_placed, nothing, parallel_placed, step_placed, steps_placed, sub_placed};
 ghost use Rattle.doc_tree.specs.Scope.{Extends, numbers_of, scope_of, setting_of, with_label, with_labels};
-ghost use Rattle.doc_tree.specs.Spelled.{abort_of, block_of, block_of_if, blocks_of, children_spelled, handlers_spelled, if_of, member_of, members_of, parallel_of, spelled_map, step_of, steps_spelled, sub_of, sub_step};
-ghost use Rattle.meaning.specs.declared.limits.TheConstants.{MAX_DEPTH};
+ghost use Rattle.doc_tree.specs.Spelled.{abort_of, block_of, block_of_if, children_spelled, handlers_spelled, if_of, member_of, members_of, parallel_of, spelled_map, step_of, steps_spelled, sub_of, sub_step};
 
 use crate::counts::Counts;
 use crate::declared::Declared;
@@ -27,7 +25,6 @@ use crate::state::ReaderState;
 use crate::unmet::Unmet;
 use batch::{Block, Handler, Otherwise, Step, Subaction};
 use doc_rules::{Failure, Form, NameRule, Rule, ShapeRule, Subject};
-use meaning::limits::MAX_DEPTH;
 use serde_json::{Map, Value};
 use std::alloc::Global;
 
@@ -692,64 +689,4 @@ fn read_block(
     let steps = read_steps(alloc, list, levels - 1, declared, state)?;
     leave_block(&mut state.labels, seen);
     Ok(Block { steps })
-}
-
-// ---- transactions
-
-/// The transaction with this number (from 1) that a value spells. No label is seen before it, and none after.
-///
-/// Returns the first demand that isn't met, with its place in the transaction, or that memory was
-/// refused.
-pub fn read_transaction(
-    alloc: Global,
-    value: &Value,
-    number: u32,
-    declared: &Declared,
-    state: &mut ReaderState,
-) -> Result<Block, Unmet>
-    requires { scope_of state.old.labels.entries ≡ [] }
-    ensures met { OnOk result (AreMet state.old.counts (transaction_placed number (setting_of
-        declared.now) (view value.now)) state.new.counts) }
-    ensures unmet { IfErr result (IsFound state.old.counts (transaction_placed number (setting_of
-        declared.now) (view value.now))) }
-    ensures value { IfOk result (λ block. (block_view block, numbers_of state.new.numbering)
-        ≡ block_of (setting_of declared.now) MAX_DEPTH [] (numbers_of state.old.numbering) (view
-        value.now)) }
-    ensures labels { OnOk result (scope_of state.new.labels.entries ≡ []) }
-{
-    state.counts.transaction = number;
-    read_block(alloc, value, MAX_DEPTH, declared, state)
-}
-
-/// The transactions that a list spells, numbered from 1.
-///
-/// Returns the first demand that isn't met, with its place in the list, or that memory was refused.
-pub fn read_transactions(
-    alloc: Global,
-    list: &Vec<Value>,
-    declared: &Declared,
-    state: &mut ReaderState,
-) -> Result<Vec<Block>, Unmet>
-    requires transactions { length list.now.items ≤ (limits_of declared.now.version).transactions }
-    requires labels { scope_of state.old.labels.entries ≡ [] }
-    ensures met { OnOk result (AreMet state.old.counts (transactions_placed (setting_of
-        declared.now) 0 (items_view list.now.items)) state.new.counts) }
-    ensures unmet { IfErr result (IsFound state.old.counts (transactions_placed (setting_of
-        declared.now) 0 (items_view list.now.items))) }
-    ensures value { IfOk result (λ blocks. (
-      map block_view blocks.items,
-      numbers_of
-          state.new.numbering,
-    ) ≡ blocks_of (setting_of declared.now) (numbers_of state.old.numbering)
-        (items_view list.now.items)) }
-{
-    let mut blocks = Vec::with_capacity(alloc, list.len())?;
-    for (index, transaction) in list.iter().enumerate() {
-        let number = index as u32 + 1;
-        match read_transaction(alloc, transaction, number, declared, state) {
-            Ok(block) => blocks.push(block)?,
-            Err(unmet) => return Err(unmet.in_item(alloc, index)),
-        }
-    }
-    Ok(blocks)
 }

@@ -1,6 +1,5 @@
 -- What a value spells is given as a batch or as a fault, and judged by its length.
 use Rattle.std.specs.Prelude.{IfOk}
-use Rattle.std.specs.Result.{IsErrAnd}
 use Rattle.std.proofs.Common.{◌≡◌, ◌≢◌, ◌≤◌, ◌<◌, ℕ, List, length, Result, Ok, Err, true, subst, sym, ap, ◌∙◌}
 use Rattle.batch.specs.declared.batch.Batch.{Batch}
 use Rattle.faults.specs.declared.fault.Fault.{Fault}
@@ -28,12 +27,6 @@ gives_too_many bytes fault long is =
 pub gives_short : (bytes : List ℕ) (answer : Result Batch Fault) → length bytes ≤ most_bytes (value_of bytes)
     → GivesDocument (spelled_by (value_of bytes)) answer → GivesDocument (reading bytes) answer
 gives_short bytes answer short given = subst (λ s. GivesDocument s answer) (sym (reads_short bytes short)) given
-
--- a fault that is passed on is given as it was
-pub gives_passed : (spelled : Result Document Fault) (answer : Result Batch Fault) (fault : Fault) → IsErrAnd answer (λ e. e ≡ fault)
-    → GivesDocument spelled (Err fault) → GivesDocument spelled answer
-gives_passed spelled (Ok batch) fault is given = absurd is
-gives_passed spelled (Err e) fault is given = subst (λ x. GivesDocument spelled (Err x)) (sym is) given
 
 -- a batch that is given has the version of the bytes
 pub given_version : (bytes : List ℕ) (answer : Result Batch Fault) (batch : Batch) → answer ≡ Ok batch

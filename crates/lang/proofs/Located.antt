@@ -1,5 +1,5 @@
 -- What is said of a document's first fault.
-use Rattle.std.proofs.Common.{◌≡◌, ℕ, ◌<◌, ◌≤◌, ◌++◌, None, Some, Result, Ok, Err, List, length, inl, inr}
+use Rattle.std.proofs.Common.{◌≡◌, ℕ, ◌<◌, ◌≤◌, ◌++◌, None, Some, Result, Err, List, length, inl, inr}
 use Rattle.std.proofs.Common.{refl, string_bytes, subst, sym, ap, ◌∙◌}
 use Rattle.serde_json.specs.Data.{Data, null}
 use Rattle.serde_json.specs.View.{view}
@@ -27,15 +27,11 @@ fault_known : (bytes : List ℕ) (d : Data) (fault : Fault) → reading bytes �
 fault_known bytes d fault reads short known =
     refused_for_first d fault (sym (reads_short bytes short ∙ ap spelled_by known) ∙ reads)
 
-none_or : (fault : Fault) (next : Counts) (r : Result Counts Found) → fault_in r ≡ Some fault → r ≡ Ok next → ⊥
-none_or fault next r failed met = let none : None ≡ Some fault = sym (ap fault_in met) ∙ failed in cc
-
--- a document with a fault does not meet all its demands
-pub not_all_met : (bytes : List ℕ) (d : Data) (fault : Fault) (start next : Counts) → reading bytes ≡ Err fault → IsShort bytes
-    → value_of bytes ≡ Some d
-    → start ≡ no_counts → seek start (placed d) ≡ Ok next → ⊥
-not_all_met bytes d fault start next reads short known begun met =
-    none_or fault next (seek no_counts (placed d)) (fault_known bytes d fault reads short known) (rw begun at met)
+-- a document with a fault has one
+pub not_faultless : (bytes : List ℕ) (d : Data) (fault : Fault) → reading bytes ≡ Err fault → IsShort bytes → value_of bytes ≡ Some d
+    → first_fault (placed d) ≡ None → ⊥
+not_faultless bytes d fault reads short known none =
+    let never : None ≡ Some fault = sym none ∙ fault_known bytes d fault reads short known in cc
 
 faults_alike : (found : Found) (fault : Fault) (r : Result Counts Found) → fault_in r ≡ Some fault → r ≡ Err found
     → fault ≡ fault_of found.failure

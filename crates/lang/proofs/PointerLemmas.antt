@@ -8,11 +8,10 @@ use Rattle.std.specs.Float.Numeral.{Parts, IsWellFormed, numeral_digits, scan_nu
 use Rattle.std.proofs.lemmas.Fmt.{decimal_digit, decimal_is_IsNumeral, decimal_nonempty, first_decimal}
 use Rattle.std.proofs.lemmas.Str.Parse.{digit_from_value}
 use Rattle.std.proofs.lemmas.Float.Parse.{scan_numeral-text_of}
-use Rattle.serde_json.specs.Data.{Data, Items, array}
-use Rattle.serde_json.specs.Find.{get_item, index_of, pointer as points_to, step, unescape, walk}
+use Rattle.serde_json.specs.Data.{Data, Items, Members, array, object}
+use Rattle.serde_json.specs.Find.{get_item, get_member, index_of, pointer as points_to, step, unescape, walk}
 use Rattle.serde_json.specs.Read.{is_integer}
 use Rattle.serde_json.proofs.Paths.{Lacks, walk_last, walk_part}
-use Rattle.doc_tokens.specs.Pulled.{in_order}
 
 -- a pointer is empty, or begins with the mark of a token
 abbrev pub IsPath : List ℕ → Type 0
@@ -91,18 +90,19 @@ module _ (ds : Items) (i : ℕ) (d : Data) (small : i < 2 ^ 64) (there : get_ite
 
 -- ---- members
 
-module _ (version : ℕ) (os ts : Items) where
-  pub objects_pointed : (p : List ℕ) → IsPath p → points_to (codes "/objects" ++ p) (in_order version os ts) ≡ points_to p (array os)
+module _ (ms : Members) (v : Data) where
+  pub objects_pointed : get_member (codes "objects") ms ≡ Some v → (p : List ℕ) → IsPath p
+      → points_to (codes "/objects" ++ p) (object ms) ≡ points_to p v
   unfolding walk unescape
-  objects_pointed p (inl none) =
-      subst (λ p. points_to (codes "/objects" ++ p) (in_order version os ts) ≡ points_to p (array os)) (sym none) refl
-  objects_pointed p (inr (rest, is)) =
-      subst (λ p. points_to (codes "/objects" ++ p) (in_order version os ts) ≡ points_to p (array os)) (sym is) refl
+  objects_pointed there p (inl none) =
+      subst (λ p. points_to (codes "/objects" ++ p) (object ms) ≡ points_to p v) (sym none) there
+  objects_pointed there p (inr (rest, is)) =
+      subst (λ p. points_to (codes "/objects" ++ p) (object ms) ≡ points_to p v) (sym is) (ap (option_and_then (walk [] rest)) there)
 
-  pub transactions_pointed : (p : List ℕ) → IsPath p
-      → points_to (codes "/transactions" ++ p) (in_order version os ts) ≡ points_to p (array ts)
+  pub transactions_pointed : get_member (codes "transactions") ms ≡ Some v → (p : List ℕ) → IsPath p
+      → points_to (codes "/transactions" ++ p) (object ms) ≡ points_to p v
   unfolding walk unescape
-  transactions_pointed p (inl none) =
-      subst (λ p. points_to (codes "/transactions" ++ p) (in_order version os ts) ≡ points_to p (array ts)) (sym none) refl
-  transactions_pointed p (inr (rest, is)) =
-      subst (λ p. points_to (codes "/transactions" ++ p) (in_order version os ts) ≡ points_to p (array ts)) (sym is) refl
+  transactions_pointed there p (inl none) =
+      subst (λ p. points_to (codes "/transactions" ++ p) (object ms) ≡ points_to p v) (sym none) there
+  transactions_pointed there p (inr (rest, is)) =
+      subst (λ p. points_to (codes "/transactions" ++ p) (object ms) ≡ points_to p v) (sym is) (ap (option_and_then (walk [] rest)) there)

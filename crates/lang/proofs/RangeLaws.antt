@@ -1,15 +1,13 @@
 -- A document goes on with the range after a comma.
 use Rattle.std.proofs.Common.{◌≡◌, ◌≤◌, ◌<◌, ◌+◌, ◌-◌, ℕ, List, [], ◌∷◌, ◌++◌, length, take, drop, get_or, refl, sym, subst, ap}
-use Rattle.std.proofs.Common.{append-nil, ◌∙◌}
+use Rattle.std.proofs.Common.{◌∙◌}
 use Rattle.json.specs.Lex.{tokens}
-use Rattle.json.specs.Token.{Token, begin_array, end_object}
-use Rattle.serde_json.specs.Data.{Items}
+use Rattle.json.specs.Token.{Token, begin_array}
 use Rattle.doc_tree.specs.Scope.{Numbers, setting_of}
 use Rattle.doc_tree.specs.declared.counts.Counts.{Counts}
 use Rattle.doc_tree.specs.declared.declared.Declared.{Declared}
 use Rattle.doc_cuts.specs.Whole.{is_left}
 use Rattle.doc_cuts.proofs.Places.{tokens_cut}
-use Rattle.doc_tokens.specs.Pulled.{ReadsItems, ReadsValue, in_order}
 use Rattle.doc_tokens.specs.Ranges.{AreRead, IsBegun, Reached}
 use Rattle.doc_tokens.proofs.RangeLemmas.{begun_on}
 use Rattle.lang.proofs.RangeEnds.{next_text}
@@ -29,11 +27,3 @@ begun_further declared start numbers t range e f left rest q r within behind com
     ap tokens text ∙ tokens_cut (take e t) range rest whole begins in
     subst (λ ts. IsBegun ts left declared start numbers r) (sym both)
     (begun_on declared start numbers (tokens (take e t)) (tokens range) left q r begun read)
-
--- a document whose transactions were read with no tokens after it
-pub nothing_later : (version : ℕ) (os : Items) (old head : List Token) → ((later : List Token) (ts : Items) (rest : List Token)
-    → ReadsItems 125 (head ++ later) ts (end_object ∷ rest) → ReadsValue 127 (old ++ later) (in_order version os ts) rest)
-    → (ts : Items) (new : List Token) → ReadsItems 125 head ts (end_object ∷ new) → ReadsValue 127 old (in_order version os ts) new
-nothing_later version os old head reads ts new items =
-    subst (λ l. ReadsValue 127 l (in_order version os ts) new) (append-nil old)
-    (reads [] ts new (subst (λ l. ReadsItems 125 l ts (end_object ∷ new)) (sym (append-nil head)) items))

@@ -54,3 +54,9 @@ pub no_object_shape : (d : Data) → as_object d ≡ None
     → fault_in (here (check no_counts (document_shape_asked d))) ≡ Some (wrong_outside Shape)
 unfolding document_shape_asked
 no_object_shape d none = rw none refl
+
+-- what has a fault isn't met
+pub not_met : (d : Data) (next : Counts) (fault : Fault) → fault_in (here (check no_counts (document_shape_asked d))) ≡ Some fault
+    → check no_counts (document_shape_asked d) ≡ Ok next → ⊥
+not_met d next fault failed met =
+    let never : None ≡ Some fault = sym (ap (λ r. fault_in (here r)) met) ∙ failed in cc

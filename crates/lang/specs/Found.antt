@@ -1,6 +1,7 @@
 -- What is said of a document's first fault: where it is, and in words which rule isn't kept.
 use Rattle.std.specs.Prelude.{◌≡◌, ◌<◌, ◌≤◌, ◌⊎◌, ◌++◌, ℕ, List, [], codes, length, None, Some, Err, string_bytes, unwrap_or}
-use Rattle.serde_json.specs.Data.{Data, null}
+use Rattle.json.specs.Lex.{tokens}
+use Rattle.serde_json.specs.Data.{Data, Members, null, object}
 use Rattle.serde_json.specs.Find.{pointer as points_to}
 use Rattle.serde_json.specs.View.{view}
 use Rattle.faults.specs.declared.fault.Fault.{Fault}
@@ -12,6 +13,11 @@ use Rattle.doc_rules.specs.declared.rule.Rule.TheVariants.{Few, Json}
 use Rattle.doc_mistakes.specs.Words.{IsSaid}
 use Rattle.doc_mistakes.specs.Within.{place_within}
 use Rattle.doc_tree.specs.declared.counts.Counts.{Counts}
+use Rattle.doc_tree.specs.Answer.{IsMet}
+use Rattle.doc_tree.specs.Asked.{document_shape_asked, version_in}
+use Rattle.doc_tree.specs.Demand.{no_counts}
+use Rattle.doc_tokens.specs.Passed.{HasMembers, version_in_notes}
+use Rattle.doc_tokens.specs.declared.notes.Notes.{Notes}
 use Rattle.doc_tree.specs.Places.{Found, Placed, seek}
 use Rattle.doc_language.specs.Document.{read_document}
 use Rattle.doc_rules.specs.declared.limits.TheConstants.{LAST_VERSION, MAX_BYTES}
@@ -75,6 +81,15 @@ abbrev pub TellsPlace : Data → Found → Place → List ℕ → Type 0
 TellsPlace value found place words = (pointer : List ℕ) × Shows pointer place × IsToldOf value found pointer words
 
 -- ---- a value that is read a part at a time; no public contract names it
+
+-- The text writes this document, whose own shape is right, and this is noted of it.
+pub record IsKnown (text : List ℕ) (notes : Notes) (d : Data) : Type 0 where
+  pub members : Members
+  pub is : d ≡ object members
+  pub version : version_in_notes notes ≡ version_in d
+  pub shape : IsMet no_counts (document_shape_asked d) no_counts
+  pub objects : HasMembers (codes "objects") notes.objects_times (tokens text) members
+  pub transactions : HasMembers (codes "transactions") notes.transactions_times (tokens text) members
 
 -- the rule that isn't kept, and where
 abbrev pub found_by : Misread → Found

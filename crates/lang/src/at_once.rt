@@ -7,23 +7,24 @@ ghost use Rattle.std.specs.Prelude.{◌≡◌, ◌≤◌, ◌<◌, ◌+◌, ℕ,
 ghost use Rattle.std.specs.Prelude.{slice_index_or, true, IfOk, IfSome, Ok, OnOk};
 ghost use Rattle.json.specs.Lex.{tokens};
 ghost use Rattle.serde_json.specs.Data.{Data};
-ghost use Rattle.batch.specs.Views.{block_view};
 ghost use Rattle.doc_cuts.specs.Whole.{is_open};
 ghost use Rattle.lang.specs.AtOnce.{Follow};
+ghost use Rattle.doc_merge.specs.Parts.{reached_by};
 ghost use Rattle.doc_merge.specs.RangeReads.{IsReadAlone};
 ghost use Rattle.doc_tokens.specs.Pulled.{ReadsValue};
 ghost use Rattle.doc_tokens.specs.Ranges.{IsHead};
 ghost use Rattle.doc_tree.specs.Answer.{AreMet};
 ghost use Rattle.doc_tree.specs.Asked.{setting_in};
+ghost use Rattle.doc_tree.specs.Demand.{no_counts};
 ghost use Rattle.doc_tree.specs.Places.{placed};
-ghost use Rattle.doc_tree.specs.Scope.{numbers_of, scope_of, setting_of};
+ghost use Rattle.doc_tree.specs.Scope.{no_numbers, numbers_of, scope_of, setting_of};
 ghost use Rattle.doc_tree.specs.Spelled.{parts_in, spelled};
 
 use crate::ranges::range_end;
-use doc_merge::ranges::{RangeRead, merge_ranges, read_range};
+use doc_merge::ranges::{MergedRanges, RangeRead, merge_ranges, read_range};
 use doc_tokens::ranges::{RangeEnd, pull_head_alone};
 use doc_tokens::stop::Stop;
-use doc_tree::declared::{Declared, Parts};
+use doc_tree::declared::Declared;
 use doc_tree::hashing::NameHashing;
 use doc_tree::state::ReaderState;
 use json::{Reader, Scratch};
@@ -114,7 +115,7 @@ fn read_head(alloc: Global, head: &str, state: &mut ReaderState) -> Result<Decla
 {
     let mut scratch = Scratch::new(alloc);
     let mut reader = Reader::new(head, &mut scratch)?;
-    pull_head_alone(alloc, &mut reader, state)
+    pull_head_alone(alloc, head.as_bytes(), &mut reader, state)
 }
 
 /// What the threads read: each range alone.
@@ -180,7 +181,7 @@ fn follow(text: &[u8], begin: usize, reads: &[RangeRead]) -> bool
     ended
 }
 
-/// The parts of the document that the text spells, if it is in the common form, from so many
+/// What the document declares and its transactions, if the text is in the common form, from so many
 /// ranges at most, each of which a thread reads.
 pub(crate) fn pull_at_once<T: Threads + Sync>(
     threads: &T,
@@ -188,29 +189,24 @@ pub(crate) fn pull_at_once<T: Threads + Sync>(
     text: &str,
     parts: usize,
     hashing: NameHashing,
-    state: &mut ReaderState,
-) -> Result<Parts, Stop>
-    requires { scope_of state.old.labels.entries ≡ [] }
-    ensures { IfOk result (λ parts. (d : Data) × ReadsValue 127 (tokens text.now) d []
-        × AreMet state.old.counts (placed d) state.new.counts
-        × (setting_of parts.declared ≡ setting_in d)
-        × (spelled parts.declared.objects (map block_view parts.transactions.items)
-        (numbers_of state.new.numbering)
-        ≡ parts_in (numbers_of state.old.numbering) d)) }
+) -> Result<(Declared, MergedRanges), Stop>
+    ensures { IfOk result (λ read. (d : Data) × ReadsValue 127 (tokens text.now) d []
+        × AreMet no_counts (placed d) read.1.counts
+        × (setting_of read.0 ≡ setting_in d)
+        × (spelled read.0.objects (reached_by read.1).blocks (reached_by read.1).numbers
+        ≡ parts_in no_numbers d)) }
 {
     let bytes = text.as_bytes();
     let bracket = head_end(bytes).ok_or(Stop::OtherForm)?;
     let head = text.get(0..bracket).ok_or(Stop::OtherForm)?;
-    let declared = read_head(alloc, head, state)?;
+    let mut state = ReaderState::new(alloc, hashing);
+    let declared = read_head(alloc, head, &mut state)?;
     let ranges = ranges_from(alloc, bytes, bracket + 1, parts)?;
     let found = read_each(threads, alloc, text, &ranges, &declared, hashing)?;
     let reads = gathered(alloc, found)?;
     if !follow(bytes, bracket + 1, &reads) {
         return Err(Stop::OtherForm);
     }
-    let transactions = merge_ranges(threads, alloc, reads, &declared, state)?;
-    Ok(Parts {
-        declared,
-        transactions,
-    })
+    let merged = merge_ranges(threads, alloc, reads, &declared, state)?;
+    Ok((declared, merged))
 }

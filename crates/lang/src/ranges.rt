@@ -57,7 +57,7 @@ fn first_range(
     ensures scope { IfOk result (λ _. scope_of state.new.labels.entries ≡ []) }
 {
     let mut reader = Reader::new(range, scratch)?;
-    pull_first_range(alloc, &mut reader, state)
+    pull_first_range(alloc, range.as_bytes(), &mut reader, state)
 }
 
 /// A next range of a document, whose transactions come after those before.

@@ -12,6 +12,7 @@ pub mod Room
 pub mod Commits
 pub mod Records
 pub mod Summed
+pub mod RepeatLemmas
 pub mod Rounding
 pub mod Counts
 pub mod Ends

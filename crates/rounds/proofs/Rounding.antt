@@ -1,12 +1,13 @@
 -- What a round commits, and what it leaves of its runs.
-use Rattle.std.proofs.Common.{◌≡◌, ◌⊎◌, ⊎_elim, inl, inr, ◌↔◌, [], ◌++◌, ℕ, ◌+◌, ◌-◌, ◌<◌, ◌≤◌, false, List, length, get_or, take}
-use Rattle.std.proofs.Common.{drop, map, refl, sym, ap, ◌∙◌, subst, arith}
+use Rattle.std.proofs.Common.{◌≡◌, ◌⊎◌, ⊎_elim, inl, inr, ◌↔◌, [], ◌++◌, ℕ, ◌+◌, ◌-◌, ◌<◌, ◌≤◌, Bool, true, false, List, length, get_or}
+use Rattle.std.proofs.Common.{take, drop, map, refl, sym, ap, ◌∙◌, subst, arith}
 use Rattle.std.proofs.lemmas.List.{take_all}
 use Rattle.std.proofs.lemmas.Bool.{false≢true}
-use native.Mathlib.Decide.{dec_le}
+use native.Mathlib.Decide.{dec_le, ℕ_discrete}
+use Rattle.std.specs.Prelude.{IsTrue}
 use Rattle.std.specs.declared.vec.Vec.{Vec}
 use Rattle.std.specs.declared.alloc.Global.{Global}
-use Rattle.objects.specs.Entries.{State, AreLegal, after}
+use Rattle.objects.specs.Entries.{State, kinds, AreLegal, after}
 use Rattle.intentions.specs.Levels.{AllHaveRoom}
 use Rattle.objects.specs.declared.entry.Entry.{Entry}
 use Rattle.meaning.specs.OneThread.{one}
@@ -16,15 +17,17 @@ use Rattle.meaning.proofs.Batches.{batch_leads}
 use Rattle.batch.specs.Views.{record_view}
 use Rattle.batch.specs.declared.batch.Batch.{Batch}
 use Rattle.batch.specs.declared.record.Record.{Record}
-use Rattle.speculate.proofs.Room.{nets_have_room}
-use Rattle.rounds.specs.Views.{start_of, blocks_of}
+use Rattle.speculate.proofs.Room.{kinds_at, nets_have_room}
+use Rattle.rounds.specs.Views.{start_of, blocks_of, meaning}
+use Rattle.rounds.specs.Repeated.{Repeats}
 use Rattle.rounds.specs.declared.pending_run.PendingRun.{PendingRun}
 use Rattle.rounds.specs.declared.window.Window.{Window}
 use Rattle.rounds.specs.PendingRuns.{IsCommittable, IsPendingOf, HoldsPast, own_nets, AreSpanned}
-use Rattle.rounds.specs.Windows.{run_at, flag_at, end_of, runs_between, IsValid, IsWindowAt, IsListedTo, AreKept, AreSettled, Stands}
+use Rattle.rounds.specs.Windows.{run_at, flag_at, end_of, runs_between, IsValid, IsWindowAt, IsListedTo, AreKept, IsRenewed, Stands}
 use Rattle.rounds.proofs.Conflicts.{AreAnswers, nets_agree, spanned, holds_past, still_stands, some_run}
 use Rattle.rounds.proofs.Listing.{alone_at}
 use Rattle.rounds.proofs.Records.{recorded_on}
+use Rattle.rounds.proofs.RepeatLemmas.{repeats_run}
 use Rattle.rounds.proofs.WindowLemmas.{run_read, none_past, between_at}
 
 module _ (batch : Batch) (b first : ℕ) (state : State) (window : Window) (listed : List Entry)
@@ -155,16 +158,80 @@ module _ (batch : Batch) (b first : ℕ) (state : State) (window : Window) (list
               (kept_at i low was);
         }
 
+    -- the kinds of the objects stay
+    kinds_stay : kinds (state_at (start_of batch) (blocks_of batch) b) ≡ kinds next
+    kinds_stay =
+        let within = at.within in
+        kinds_at batch b opened ∙ sym (ap kinds next_is ∙ kinds_at batch first (omega arith))
+
+    -- the run at the next opening, which may be known to be one there
+    first_made : (again : Bool) (renewed : Window) (d : PendingRun) → IsRenewed first again new renewed
+        → (IsTrue again → IsValid window first) → (IsTrue again → (d : PendingRun) → Repeats next (run_at window first d))
+        → IsValid renewed first → IsPendingOf (meaning batch first next) (run_at renewed first d)
+    first_made true renewed d is was repeats valid =
+        let run = run_at window first d in
+        subst (IsPendingOf (meaning batch first next))
+        (sym (run_read new renewed new.runs.items first d is.first (ap (λ rs. rs.items) is.runs) ∙ runs_are first d))
+        (repeats_run batch first (state_at (start_of batch) (blocks_of batch) b) next run kinds_stay
+        (at.made first d (omega arith) (was refl)) (repeats refl d))
+    first_made false renewed d is was repeats valid =
+        let same = is.same refl in
+        subst (λ w. IsPendingOf (meaning batch first next) (run_at w first d)) (sym same)
+        (kept_window.made first d (omega arith) (ap (λ w. flag_at w first) (sym same) ∙ valid))
+
+    -- with it, the runs are those of the next opening
+    pub renewed_window : (again : Bool) (renewed : Window) → IsRenewed first again new renewed → (IsTrue again → IsValid window first)
+        → (IsTrue again → (d : PendingRun) → Repeats next (run_at window first d)) → IsWindowAt batch first next renewed
+    renewed_window again renewed is was repeats =
+        let here = kept_window in
+        let begun = here.begun in
+        let few = here.within in
+        let begins = is.first in
+        let size = ap (λ rs. length rs.items) is.runs in
+        record {
+          begun = omega arith;
+          flags = is.flags ∙ (here.flags ∙ sym size);
+          within = omega arith;
+          made = λ i d low valid. elim (ℕ_discrete first i) [
+            | yes same ↦ subst (λ j. IsPendingOf (meaning batch j next) (run_at renewed j d)) same
+                (first_made again renewed d is was repeats (subst (λ j. IsValid renewed j) (sym same) valid))
+            | no other ↦ subst (IsPendingOf (meaning batch i next))
+                (sym (run_read new renewed new.runs.items i d is.first (ap (λ rs. rs.items) is.runs)))
+                (here.made i d low (sym (is.others i (λ same. other (sym same)) (omega arith)) ∙ valid))
+          ];
+        }
+
+    -- it is of the window
+    pub renewed_within : (again : Bool) → (IsTrue again → IsValid window first) → IsTrue again
+        → (new.first ≤ first) × (first < end_of new)
+    renewed_within again was told =
+        let begun = kept_window.begun in
+        let begins = kept.first in
+        let size = ap (λ rs. length rs.items) kept.runs in (
+          begun,
+          elim (dec_le (end_of window) first) [
+            | yes beyond ↦ absurd (false≢true (sym (none_past window first at.flags beyond) ∙ was told))
+            | no within ↦ omega arith
+          ],
+        )
+
+    -- the runs that the round committed are those of before
+    pub renewed_between : (again : Bool) (renewed : Window) → IsRenewed first again new renewed
+        → runs_between renewed b first ≡ runs_between new b first
+    renewed_between again renewed is = ap (λ rs. take (first - b) (drop (b - renewed.first) rs.items)) is.runs
+        ∙ ap (λ n. take (first - b) (drop (b - n) new.runs.items)) is.first
+
     -- the records up to there are those of one thread
-    pub committed_on : (settled : Window) (before after : Vec Record Global)
-        → map record_view before.items ≡ shown_from (start_of batch) (blocks_of batch) 0 b → AreSettled b first new settled before after
+    pub committed_on : (before after : Vec Record Global)
+        → map record_view before.items ≡ shown_from (start_of batch) (blocks_of batch) 0 b
+        → after.items ≡ before.items ++ map (λ r. r.tree) (runs_between new b first)
         → map record_view after.items ≡ shown_from (start_of batch) (blocks_of batch) 0 first
-    committed_on settled before after shown done =
+    committed_on before after shown pushed =
         let from = seen.from in
         let runs : runs_between new b first ≡ passed = ap (λ rs. take (first - b) (drop (b - new.first) rs.items)) kept.runs
         ∙ ap (λ n. take (first - b) (drop (b - n) window.runs.items)) kept.first in
         let all = size in
         let number : b + length passed ≡ first = omega arith in
         recorded_on (start_of batch) (blocks_of batch) b passed before.items after.items answers_of shown
-        (done.pushed ∙ ap (λ rs. before.items ++ map (λ (r : PendingRun). r.tree) rs) runs)
+        (pushed ∙ ap (λ rs. before.items ++ map (λ (r : PendingRun). r.tree) rs) runs)
         ∙ ap (shown_from (start_of batch) (blocks_of batch) 0) number

@@ -1,17 +1,18 @@
 -- Runs are committed: their records are listed, and their places are used again.
-use Rattle.std.proofs.Common.{◌≡◌, ◌≢◌, ℕ, ◌+◌, ◌-◌, ◌<◌, ◌≤◌, Bool, false, List, [], ◌∷◌, ◌++◌, length, get_or, set, take, drop, map}
+use Rattle.std.proofs.Common.{◌≡◌, ◌≢◌, ℕ, ◌+◌, ◌-◌, ◌<◌, ◌≤◌, false, List, [], ◌∷◌, ◌++◌, length, get_or, set, take, drop, map}
 use Rattle.std.proofs.Common.{refl, sym, ap, ◌∙◌, arith, append-nil, append_assoc}
-use Rattle.std.proofs.lemmas.List.{get_or_past, get_or-take, get_or-drop, get_or-append_right, length-append, length-drop, length-take-le}
+use Rattle.std.proofs.lemmas.List.{get_or_past, get_or-drop, length-drop}
+use Rattle.std.proofs.lemmas.List.Edits.{length-swap, swap_is}
+use Rattle.std.specs.List.{swap}
 use Rattle.std.proofs.lemmas.List.{length-set, get_or-set_same, get_or-set_other, take_more, map-append}
-use Rattle.std.proofs.Math.ListN.{get_or-append}
 use native.Mathlib.Decide.{ℕ_discrete, dec_le}
 use Rattle.std.specs.declared.vec.Vec.{Vec}
 use Rattle.std.specs.declared.alloc.Global.{Global}
 use Rattle.batch.specs.declared.record.Record.{Record}
 use Rattle.rounds.specs.declared.pending_run.PendingRun.{PendingRun}
 use Rattle.rounds.specs.declared.window.Window.{Window}
-use Rattle.rounds.specs.Windows.{end_of, runs_between, AreCleared, AreSettled}
-use Rattle.rounds.proofs.WindowLemmas.{none_past, flag_read}
+use Rattle.rounds.specs.Windows.{end_of, runs_between, AreMovedUp, AreSettled}
+use Rattle.rounds.proofs.WindowLemmas.{flag_read}
 
 -- the records of the runs from one place on and before another are listed, and all else is as before
 pub record AreTaken (start place : ℕ) (old new : Window) (before after : List Record) : Type 0 where
@@ -76,65 +77,136 @@ all_taken from end_ start count old taken before after low begins ends are =
     are.pushed ∙ (ap (λ n. before ++ map (λ (r : PendingRun). r.tree) (take n (drop start old.runs.items))) size
     ∙ ap (λ n. before ++ map (λ (r : PendingRun). r.tree) (take (end_ - from) (drop n old.runs.items))) begins)
 
--- no place is cleared yet
-pub none_cleared : (window : Window) → AreCleared 0 window window
-none_cleared window = record {
+-- the runs of the first places were exchanged with as many from a place on, whose flags were copied to the first ones
+pub record AreExchanged (count place : ℕ) (old new : Window) : Type 0 where
+  pub first : new.first ≡ old.first
+  pub all : length new.runs.items ≡ length old.runs.items
+  pub flags : length new.valid.items ≡ length old.valid.items
+  pub runs : (k : ℕ) (d : PendingRun) → k < place → get_or new.runs.items k d ≡ get_or old.runs.items (count + k) d
+  pub others : (k : ℕ) (d : PendingRun) → count + place ≤ k → get_or new.runs.items k d ≡ get_or old.runs.items k d
+  pub valid : (k : ℕ) → k < place → get_or new.valid.items k false ≡ get_or old.valid.items (count + k) false
+  pub left : (k : ℕ) → place ≤ k → get_or new.valid.items k false ≡ get_or old.valid.items k false
+
+-- none is yet
+pub none_exchanged : (count : ℕ) (window : Window) → AreExchanged count 0 window window
+none_exchanged count window = record {
   first = refl;
-  runs = refl;
+  all = refl;
   flags = refl;
-  here = λ k lt. absurd (omega arith);
-  others = λ k le. refl;
+  runs = λ k d lt. absurd (omega arith);
+  others = λ k d le. refl;
+  valid = λ k lt. absurd (omega arith);
+  left = λ k le. refl;
 }
 
 -- one more is
-pub one_cleared : (place : ℕ) (old window new : Window) → place < length old.valid.items → AreCleared place old window
-    → new.first ≡ window.first → new.runs ≡ window.runs → new.valid.items ≡ set window.valid.items place false
-    → AreCleared (place + 1) old new
-one_cleared place old window new inside so_far first runs valid =
-    let size = so_far.flags in
+pub one_exchanged : (count place : ℕ) (old window new : Window) → place < count → count + place < length old.runs.items
+    → length old.valid.items ≡ length old.runs.items → AreExchanged count place old window → new.first ≡ window.first
+    → new.runs.items ≡ swap window.runs.items place (count + place)
+    → new.valid.items ≡ set window.valid.items place (get_or window.valid.items (count + place) false)
+    → AreExchanged count (place + 1) old new
+one_exchanged count place old window new early inside same so_far first runs valid =
+    let size = so_far.all in
+    let sizes = so_far.flags in
+    let xs = window.runs.items in
+    let there = count + place in
+    let apart : place ≢ there = omega arith in
+    let is : (k : ℕ) (d : PendingRun) → get_or new.runs.items k d
+    ≡ get_or (set (set xs place (get_or xs there d)) there (get_or xs place d)) k d = λ k d.
+    ap (λ rs. get_or rs k d) (runs ∙ sym (swap_is xs place there d (omega arith) (omega arith))) in
+    let flag : (k : ℕ) → k ≢ place → get_or new.valid.items k false ≡ get_or window.valid.items k false = λ k other.
+    ap (λ v. get_or v k false) valid ∙ get_or-set_other window.valid.items place k (get_or window.valid.items there false) false other in
+    record {
+      first = first ∙ so_far.first;
+      all = ap length runs ∙ (length-swap xs place there ∙ size);
+      flags = ap length valid ∙ (length-set window.valid.items place (get_or window.valid.items there false) ∙ sizes);
+      runs = λ k d lt. elim (ℕ_discrete k place) [
+        | yes here ↦ is k d
+            ∙ (ap (λ n. get_or (set (set xs place (get_or xs there d)) there (get_or xs place d)) n d) here
+            ∙ (get_or-set_other (set xs place (get_or xs there d)) there place (get_or xs place d) d apart
+            ∙ (get_or-set_same xs place (get_or xs there d) d (omega arith) ∙ (so_far.others there d (omega arith)
+            ∙ ap (λ n. get_or old.runs.items (count + n) d) (sym here)))))
+        | no other ↦
+            let past : k ≢ there = omega arith in
+            is k d ∙ (get_or-set_other (set xs place (get_or xs there d)) there k (get_or xs place d) d past
+            ∙ (get_or-set_other xs place k (get_or xs there d) d other ∙ so_far.runs k d (omega arith)))
+      ];
+      others = λ k d le.
+          let past : k ≢ there = omega arith in
+          let later : k ≢ place = omega arith in
+          is k d ∙ (get_or-set_other (set xs place (get_or xs there d)) there k (get_or xs place d) d past
+          ∙ (get_or-set_other xs place k (get_or xs there d) d later ∙ so_far.others k d (omega arith)));
+      valid = λ k lt. elim (ℕ_discrete k place) [
+        | yes here ↦ ap (λ v. get_or v k false) valid
+            ∙ (ap (λ n. get_or (set window.valid.items place (get_or window.valid.items there false)) n false) here
+            ∙ (get_or-set_same window.valid.items place (get_or window.valid.items there false) false (omega arith)
+            ∙ (so_far.left there (omega arith) ∙ ap (λ n. get_or old.valid.items (count + n) false) (sym here))))
+        | no other ↦ flag k other ∙ so_far.valid k (omega arith)
+      ];
+      left = λ k le.
+          let later : k ≢ place = omega arith in
+          flag k later ∙ so_far.left k (omega arith);
+    }
+
+-- no flag from the number of these on and before a place is set
+pub record AreFreed (count rest place : ℕ) (old new : Window) : Type 0 where
+  pub first : new.first ≡ old.first
+  pub all : length new.runs.items ≡ length old.runs.items
+  pub flags : length new.valid.items ≡ length old.valid.items
+  pub runs : (k : ℕ) (d : PendingRun) → k < rest → get_or new.runs.items k d ≡ get_or old.runs.items (count + k) d
+  pub valid : (k : ℕ) → k < rest → get_or new.valid.items k false ≡ get_or old.valid.items (count + k) false
+  pub free : (k : ℕ) → rest ≤ k → k < place → get_or new.valid.items k false ≡ false
+
+pub none_freed : (count rest : ℕ) (old window : Window) → AreExchanged count rest old window → AreFreed count rest rest old window
+none_freed count rest old window are = record {
+  first = are.first;
+  all = are.all;
+  flags = are.flags;
+  runs = are.runs;
+  valid = are.valid;
+  free = λ k low lt. absurd (omega arith);
+}
+
+pub one_freed : (count rest place : ℕ) (old window new : Window) → rest ≤ place → place < length window.valid.items
+    → AreFreed count rest place old window → new.first ≡ window.first → new.runs ≡ window.runs
+    → new.valid.items ≡ set window.valid.items place false → AreFreed count rest (place + 1) old new
+one_freed count rest place old window new later inside so_far first runs valid =
     let flag : (k : ℕ) → k ≢ place → get_or new.valid.items k false ≡ get_or window.valid.items k false = λ k other.
     ap (λ v. get_or v k false) valid ∙ get_or-set_other window.valid.items place k false false other in
     record {
       first = first ∙ so_far.first;
-      runs = runs ∙ so_far.runs;
+      all = ap (λ rs. length rs.items) runs ∙ so_far.all;
       flags = ap length valid ∙ (length-set window.valid.items place false ∙ so_far.flags);
-      here = λ k lt. elim (ℕ_discrete k place) [
-        | yes is ↦ ap (λ v. get_or v k false) valid ∙ (ap (λ n. get_or (set window.valid.items place false) n false) is
-            ∙ get_or-set_same window.valid.items place false false (omega arith))
-        | no other ↦ flag k other ∙ so_far.here k (omega arith)
-      ];
-      others = λ k le.
+      runs = λ k d lt. ap (λ rs. get_or rs.items k d) runs ∙ so_far.runs k d lt;
+      valid = λ k lt.
           let other : k ≢ place = omega arith in
-          flag k other ∙ so_far.others k (omega arith);
+          flag k other ∙ so_far.valid k lt;
+      free = λ k low lt. elim (ℕ_discrete k place) [
+        | yes is ↦ ap (λ v. get_or v k false) valid ∙ (ap (λ n. get_or (set window.valid.items place false) n false) is
+            ∙ get_or-set_same window.valid.items place false false inside)
+        | no other ↦ flag k other ∙ so_far.free k low (omega arith)
+      ];
     }
 
--- what a list has past its first places comes first where these are moved to its end
-rotated : {X : Type 0} (xs : List X) (count k : ℕ) (d : X) → count + k < length xs
-    → get_or (drop count xs ++ take count xs) k d ≡ get_or xs (count + k) d
-rotated xs count k d lt =
-    let size = length-drop count xs in
-    get_or-append (drop count xs) (take count xs) d k (omega arith) ∙ get_or-drop count xs k d
-
-all_rotated : {X : Type 0} (xs : List X) (count : ℕ) → count ≤ length xs → length (drop count xs ++ take count xs) ≡ length xs
-all_rotated xs count le = omega (
-  arith,
-  length-append (drop count xs) (take count xs),
-  length-drop count xs,
-  length-take-le count xs le,
-)
-
--- no flag that was moved is set, where none of them was
-rotated_past : (flags : List Bool) (count k : ℕ) → count ≤ length flags → length flags ≤ count + k
-    → ((j : ℕ) → j < count → get_or flags j false ≡ false) → get_or (drop count flags ++ take count flags) k false ≡ false
-rotated_past flags count k inside past cleared =
-    let size = length-drop count flags in
-    let few = length-take-le count flags inside in
-    let left = length flags - count in
-    get_or-append_right (drop count flags) (take count flags) left k false size (omega arith)
-    ∙ elim (dec_le count (k - left)) [
-      | yes le ↦ get_or_past (take count flags) (k - left) false (omega arith)
-      | no less ↦ get_or-take count flags (k - left) false (omega arith) ∙ cleared (k - left) (omega arith)
-    ]
+-- the runs are moved up once no later flag is set
+pub all_freed : (count rest place : ℕ) (old new : Window) → rest + count ≡ length old.runs.items
+    → length old.valid.items ≡ length old.runs.items → length new.valid.items ≤ place → AreFreed count rest place old new
+    → AreMovedUp count old new
+all_freed count rest place old new parts same over are =
+    let sizes = are.flags in
+    record {
+      first = are.first;
+      all = are.all;
+      flags = are.flags;
+      runs = λ k d lt. are.runs k d (omega arith);
+      valid = λ k. elim (dec_le rest k) [
+        | no before ↦ are.valid k (omega arith)
+        | yes past ↦ elim (dec_le (length new.valid.items) k) [
+          | yes beyond ↦ get_or_past new.valid.items k false beyond
+          | no within ↦ are.free k past (omega arith)
+        ] ∙ sym (get_or_past old.valid.items (count + k) false (omega arith))
+      ];
+    }
 
 -- where nothing was moved, the window begins as before
 pub not_moved : (from end_ start count : ℕ) (old taken : Window) (before after : Vec Record Global)
@@ -150,39 +222,30 @@ not_moved from end_ start count old taken before after flags low ordered begins 
       valid = λ i later. flag_read old taken old.valid.items i are.first (ap (λ v. v.items) are.valid);
     }
 
--- where the flags of the first places were cleared, and these were moved to the end, the window begins with the number
-pub moved : (from end_ start count : ℕ) (old taken cleared new : Window) (before after : Vec Record Global)
+-- where the runs past the first places were moved up, the window begins with the number
+pub moved : (from end_ start count : ℕ) (old taken up new : Window) (before after : Vec Record Global)
     → length old.valid.items ≡ length old.runs.items → old.first ≤ from → from ≤ end_ → end_ ≤ end_of old
     → start ≡ from - old.first → count ≡ end_ - old.first → AreTaken start count old taken before.items after.items
-    → AreCleared count taken cleared → new.first ≡ end_
-    → new.runs.items ≡ drop count cleared.runs.items ++ take count cleared.runs.items
-    → new.valid.items ≡ drop count cleared.valid.items ++ take count cleared.valid.items → AreSettled from end_ old new before after
-moved from end_ start count old taken cleared new before after flags low ordered high begins ends are clear first runs valid =
-    let same_runs = ap (λ rs. rs.items) clear.runs in
-    let size : length cleared.runs.items ≡ length old.runs.items = ap length same_runs ∙ are.runs in
+    → AreMovedUp count taken up → new.first ≡ end_ → new.runs ≡ up.runs → new.valid ≡ up.valid → AreSettled from end_ old new before after
+moved from end_ start count old taken up new before after flags low ordered high begins ends are moves first runs valid =
     let same_flags = ap (λ v. v.items) are.valid in
-    let sizes : length cleared.valid.items ≡ length old.valid.items = clear.flags ∙ ap length same_flags in
+    let size = are.runs in
+    let sizes = ap length same_flags in
+    let all = moves.all in
+    let all_flags = moves.flags in
     record {
       first = omega arith;
-      flags = ap length valid ∙ (all_rotated cleared.valid.items count (omega arith) ∙ (sizes ∙ (flags ∙ (sym size
-          ∙ (sym (all_rotated cleared.runs.items count (omega arith)) ∙ sym (ap length runs))))));
+      flags = ap (λ v. length v.items) valid ∙ (all_flags ∙ (sizes ∙ (flags ∙ (sym size
+          ∙ (sym all ∙ sym (ap (λ rs. length rs.items) runs))))));
       pushed = all_taken from end_ start count old taken before.items after.items low begins ends are;
       same = λ i d later within.
           let place : count + (i - end_) ≡ i - old.first = omega arith in
-          ap (λ rs. get_or rs (i - new.first) d) runs
-          ∙ (ap (λ n. get_or (drop count cleared.runs.items ++ take count cleared.runs.items) (i - n) d) first
-          ∙ (rotated cleared.runs.items count (i - end_) d (omega arith)
-          ∙ (ap (λ n. get_or cleared.runs.items n d) place ∙ (ap (λ rs. get_or rs (i - old.first) d) same_runs
-          ∙ are.others (i - old.first) d (omega arith)))));
+          ap (λ rs. get_or rs.items (i - new.first) d) runs ∙ (ap (λ n. get_or up.runs.items (i - n) d) first
+          ∙ (moves.runs (i - end_) d (omega arith)
+          ∙ (ap (λ n. get_or taken.runs.items n d) place ∙ are.others (i - old.first) d (omega arith))));
       valid = λ i later.
           let place : count + (i - end_) ≡ i - old.first = omega arith in
-          ap (λ v. get_or v (i - new.first) false) valid
-          ∙ (ap (λ n. get_or (drop count cleared.valid.items ++ take count cleared.valid.items) (i - n) false) first
-          ∙ elim (dec_le (end_of old) i) [
-            | yes past ↦ rotated_past cleared.valid.items count (i - end_) (omega arith) (omega arith) clear.here
-                ∙ sym (none_past old i flags past)
-            | no within ↦ rotated cleared.valid.items count (i - end_) false (omega arith)
-                ∙ (ap (λ n. get_or cleared.valid.items n false) place ∙ (clear.others (i - old.first) (omega arith)
-                ∙ ap (λ v. get_or v (i - old.first) false) same_flags))
-          ]);
+          ap (λ v. get_or v.items (i - new.first) false) valid ∙ (ap (λ n. get_or up.valid.items (i - n) false) first
+          ∙ (moves.valid (i - end_) ∙ (ap (λ n. get_or taken.valid.items n false) place
+          ∙ ap (λ v. get_or v (i - old.first) false) same_flags)));
     }

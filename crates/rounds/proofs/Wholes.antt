@@ -11,7 +11,7 @@ use Rattle.meaning.specs.Records.{kept_of_handler, kept_of_children, net}
 use Rattle.speculate.proofs.Room.{kept-le, kept_of_step-le, kept_of_child-le, kept_of_handler-le, kept_of_children-le}
 
 -- where all is kept of two parts, all is kept of each
-each_kept : (xs ys us vs : List Entry) → length us ≤ length xs → length vs ≤ length ys → length (xs ++ ys) ≤ length (us ++ vs)
+pub each_kept : (xs ys us vs : List Entry) → length us ≤ length xs → length vs ≤ length ys → length (xs ++ ys) ≤ length (us ++ vs)
     → (length xs ≤ length us) × (length ys ≤ length vs)
 each_kept xs ys us vs first second all = (
   omega (arith, second, all, length-append xs ys, length-append us vs),

@@ -1,6 +1,7 @@
 pub mod Views
 pub mod Passes
 pub mod PendingRuns
+pub mod Repeated
 pub mod Workspaces
 pub mod Openings
 pub mod Outcomes

@@ -59,8 +59,9 @@ own_net block run = net_in (left_by run.sums) (left_by_transaction block (record
 abbrev pub net_of_run : NetList → Run → List Entry
 net_of_run listed run = listed_by listed run.entries.items run.net.items
 
--- summaries of these entries and of this net
+-- summaries of these entries and of this net, which is all of the entries where it has no summary of its own
 pub record AreSumsOf (sums : Sums) (entries net : List Entry) : Type 0 where
+  pub whole : sums.of_net ≡ None → net ≡ entries
   pub entries_are : IsSummary (entries_of sums.entries.items) entries
   pub net_is : IsSummary (left_by sums) net
 

@@ -142,13 +142,14 @@ pub record IsChecked (number : ℕ) (listed more : List Entry) (old new : Window
   pub same : stands ≡ false → (new ≡ old) × (more ≡ listed)
   pub kept : take (length listed) more ≡ listed
 
--- the runs at the first places aren't valid, and all else is as before
-pub record AreCleared (count : ℕ) (old new : Window) : Type 0 where
+-- the runs past the first places begin the window, and no run past them is valid
+pub record AreMovedUp (count : ℕ) (old new : Window) : Type 0 where
   pub first : new.first ≡ old.first
-  pub runs : new.runs ≡ old.runs
+  pub all : length new.runs.items ≡ length old.runs.items
   pub flags : length new.valid.items ≡ length old.valid.items
-  pub here : (k : ℕ) → k < count → slice_index_or new.valid.items k false ≡ false
-  pub others : (k : ℕ) → count ≤ k → slice_index_or new.valid.items k false ≡ slice_index_or old.valid.items k false
+  pub runs : (k : ℕ) (d : PendingRun) → count + k < length old.runs.items
+      → slice_index_or new.runs.items k d ≡ slice_index_or old.runs.items (count + k) d
+  pub valid : (k : ℕ) → slice_index_or new.valid.items k false ≡ slice_index_or old.valid.items (count + k) false
 
 -- The records of the runs from one number on and before another were added to a list. The later runs are as they were, and none past
 -- them is valid. The window begins no later than with the second number.
@@ -164,6 +165,14 @@ pub record IsShortened (end : ℕ) (old new : Window) : Type 0 where
   pub first : new.first ≡ old.first
   pub runs : new.runs.items ≡ take (end - old.first) old.runs.items
   pub valid : new.valid.items ≡ take (end - old.first) old.valid.items
+
+-- where it is to be so, the run with a number is valid, and all else is as before
+pub record IsRenewed (number : ℕ) (again : Bool) (old new : Window) : Type 0 where
+  pub first : new.first ≡ old.first
+  pub runs : new.runs ≡ old.runs
+  pub flags : length new.valid.items ≡ length old.valid.items
+  pub others : (i : ℕ) → i ≢ number → old.first ≤ i → flag_at new i ≡ flag_at old i
+  pub same : again ≡ false → new ≡ old
 
 -- the numbers, each once, of the runs from one number on and before another that aren't valid
 pub record AreMissing (window : Window) (from upto : ℕ) (numbers : List ℕ) : Type 0 where

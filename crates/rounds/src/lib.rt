@@ -9,6 +9,7 @@ pub mod laws;
 mod make;
 mod openings;
 mod pending_run;
+mod repeating;
 mod reused;
 mod seek;
 mod window;

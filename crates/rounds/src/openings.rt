@@ -1,11 +1,13 @@
 //! The loop of openings. Each round makes runs as far as it comes, up to the first that conflicts. It
 //! commits those before it, and keeps of the others those that are still valid.
-ghost use Rattle.std.specs.Prelude.{◌≡◌, ◌+◌, ◌<◌, ◌≤◌, ℕ, [], length, IfOk, OnOk, slice_index_or};
+ghost use Rattle.std.specs.Prelude.{◌≡◌, ◌+◌, ◌<◌, ◌≤◌, ℕ, [], false, length, IfOk, IsTrue, OnOk, slice_index_or};
 ghost use Rattle.batch.specs.declared.batch.Batch.{Batch as OneBatch};
 ghost use Rattle.claims.specs.Views.{times};
 ghost use Rattle.rounds.specs.Openings.{AreCounts};
 ghost use Rattle.rounds.specs.Outcomes.{IsOutcomeOf};
-ghost use Rattle.rounds.specs.Windows.{IsOpening, IsRound, AreCountsOn, AllPending};
+ghost use Rattle.rounds.specs.Repeated.{Repeats};
+ghost use Rattle.rounds.specs.Windows.{run_at, IsValid, IsOpening, IsRound, AreCountsOn, AllPending};
+ghost use Rattle.rounds.specs.declared.pending_run.PendingRun.{PendingRun as OnePending};
 ghost use Rattle.meaning.specs.declared.limits.TheConstants.{MAX_TRANSACTIONS};
 
 use crate::committing::commit;
@@ -48,6 +50,24 @@ struct Opening {
     rounds: u32,
 }
 
+impl Opening {
+    // Whether runs are tried, and that of this number is known to be one on the objects, too.
+    fn repeats(&self, tries: bool, number: usize) -> bool
+        requires flags { length self.now.window.valid.items ≡ length self.now.window.runs.items }
+        requires number { self.now.window.first ≤ number }
+        ensures tried { tries ≡ false → result ≡ false }
+        ensures valid { IsTrue result → IsValid self.now.window number }
+        ensures repeats { IsTrue result
+            → (d : OnePending) → Repeats self.now.objects (run_at self.now.window number d) }
+    {
+        if tries {
+            self.window.repeats(number, &self.objects)
+        } else {
+            false
+        }
+    }
+}
+
 // The first opening. The objects are as they start, and no run is made. The first round looks at two
 // pieces for each worker first.
 fn begin(alloc: Global, batch: &Batch, plan: Plan) -> Result<Opening, NoMemory>
@@ -67,12 +87,18 @@ fn begin(alloc: Global, batch: &Batch, plan: Plan) -> Result<Opening, NoMemory>
     })
 }
 
-// A round leads from one opening to the next.
-fn round<R: Threads + Sync, G: Gate>(job: &Job<R, G>, at: &mut Opening) -> Result<(), NoMemory>
+// A round leads from one opening to the next. Where runs are tried, that of the first conflict stays
+// valid if its calls get the same replies on the objects of the next opening.
+fn round<R: Threads + Sync, G: Gate>(
+    job: &Job<R, G>,
+    at: &mut Opening,
+    tries: bool,
+) -> Result<(), NoMemory>
     requires at { IsOpening job.now.batch.now at.old }
     requires going { at.old.committed < length job.now.batch.now.transactions.items }
     ensures at { OnOk result (IsOpening job.now.batch.now at.new) }
-    ensures round { OnOk result (IsRound job.now.batch.now at.old at.new) }
+    ensures on { OnOk result (at.old.committed < at.new.committed) }
+    ensures round { OnOk result (tries ≡ false → IsRound job.now.batch.now at.old at.new) }
 {
     let opened = at.committed;
     let ahead = at.ahead.max(1);
@@ -88,8 +114,10 @@ fn round<R: Threads + Sync, G: Gate>(job: &Job<R, G>, at: &mut Opening) -> Resul
     let first = seen.first;
     let runs = at.window.between(opened, first);
     commit(job, opened, runs, &mut at.objects)?;
+    let again = at.repeats(tries, first);
     at.window
         .keep_after(job, first, &mut at.reused.nets, seen.upto)?;
+    at.window.renew(first, again);
     at.window.settle(job.alloc, opened, first, &mut at.records)?;
     at.committed = first;
     at.window.shorten(job.batch.transactions.len());
@@ -198,7 +226,7 @@ pub fn execute<R: Threads + Sync, G: Gate>(
     let mut counts = no_counts(alloc, batch.transactions.len())?;
     'opening: while at.committed < batch.transactions.len() {
         make_rest(&job, &mut at, &mut counts)?;
-        round(&job, &mut at)?;
+        round(&job, &mut at, false)?;
     }
     Ok(outcome_of(at, counts))
 }
@@ -219,7 +247,7 @@ pub fn execute_ahead<R: Threads + Sync, G: Gate>(
     let job = Job::of(threads, alloc, batch, plan, gate);
     let mut at = begin(alloc, batch, plan)?;
     'opening: while at.committed < batch.transactions.len() {
-        round(&job, &mut at)?;
+        round(&job, &mut at, true)?;
         drop_later(&mut at);
     }
     Ok(outcome_of(at, Vec::new(alloc)))

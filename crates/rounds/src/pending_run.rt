@@ -6,12 +6,14 @@ ghost use Rattle.committed.specs.declared.summary.TheConstants.{FEW_ENTRIES};
 ghost use Rattle.meaning.specs.Records.{Taken};
 ghost use Rattle.meaning.specs.OneThread.{Execution};
 ghost use Rattle.rounds.specs.PendingRuns.{left_by, listed_net, net_of_run, IsListedNet, AreSumsOf, IsCommittable};
+ghost use Rattle.rounds.specs.Repeated.{Repeats};
 
+use crate::repeating::are_repeated;
 use batch::Record;
 use committed::{FEW_ENTRIES, MarkedEntry, Span, summarize};
 use intentions::NetList;
 use meaning::End;
-use objects::{Entry, EntryHashing};
+use objects::{Entry, EntryHashing, Objects};
 use serial::NoMemory;
 use speculate::Run;
 use std::alloc::Global;
@@ -172,6 +174,20 @@ impl PendingRun {
         };
         swap(&mut self.tree, &mut run.tree);
         Ok(())
+    }
+
+    /// Whether the run left all of a few entries, and their calls get the same replies on these
+    /// objects. It is the run of its transaction there then.
+    pub(crate) fn repeats(&self, objects: &Objects) -> bool
+        ensures { IsTrue result → Repeats objects.now self.now }
+    {
+        if self.sums.of_net.is_some() {
+            return false;
+        }
+        match &self.net {
+            Net::Summed => are_repeated(objects, &self.sums.entries),
+            Net::Listed(_) | Net::Recorded => false,
+        }
     }
 
     /// Frees the summaries, unless the net is in them. The rest can still be committed.

@@ -189,6 +189,43 @@ fn check<R: Threads + Sync, G: Gate>(
     check_made(job, opened, block, &made.passing, window, nets)
 }
 
+// Seeks the first conflict of a round in blocks of runs, in this workspace, and lists the nets of the
+// runs before it. The first block has so many runs, and each later one twice as many as the one
+// before it.
+fn seek_in<R: Threads + Sync, G: Gate>(
+    job: &Job<R, G>,
+    opened: usize,
+    expected: usize,
+    workspace: &mut Workspace<'_>,
+    window: &mut Window,
+    nets: &mut Committed,
+) -> Result<FirstConflict, NoMemory>
+    requires opening { workspace.old.view.snapshot ≡ opening_state job.now.batch.now opened }
+    requires going { opened < length (blocks_of job.now.batch.now) }
+    requires window { IsWindowAt job.now.batch.now opened workspace.old.view.snapshot window.old }
+    requires some { 1 ≤ expected }
+    requires none { nets.old ≡ [] }
+    requires ready { IsReadyOn workspace.old.view.snapshot workspace.old }
+    ensures grown { OnOk result (HasGrown opened window.old window.new) }
+    ensures seen { IfOk result (IsRoundSeen job.now.batch.now opened window.new nets.new) }
+{
+    let count = job.batch.transactions.len();
+    let mut from = opened;
+    let mut block = expected;
+    'looking: while from < count {
+        let end = from.saturating_add(block).min(count);
+        window.reach(job.alloc, job.batch, from, workspace.objects(), end)?;
+        let seen = check(job, opened, from..end, workspace, window, nets)?;
+        if seen.first < end {
+            return Ok(seen);
+        }
+        from = end;
+        block = block.saturating_mul(2);
+    }
+    let upto = nets.len();
+    Ok(FirstConflict { first: from, upto })
+}
+
 /// Seeks the first conflict of a round in blocks of runs, and lists the nets of the runs before it.
 /// The first block has so many runs, and each later one twice as many as the one before it. What the
 /// calling thread makes by itself, it makes in memory that the next round uses again.
@@ -210,24 +247,10 @@ pub(crate) fn seek<R: Threads + Sync, G: Gate>(
     ensures grown { OnOk result (HasGrown opened window.old window.new) }
     ensures seen { IfOk result (IsRoundSeen job.now.batch.now opened window.new reused.new.nets) }
 {
-    let count = job.batch.transactions.len();
     let memory = reused.give(job.alloc);
     let mut workspace = Workspace::open_in(job.alloc, objects, job.operations_each, memory);
-    let mut from = opened;
-    let mut block = expected;
-    'looking: while from < count {
-        let end = from.saturating_add(block).min(count);
-        window.reach(job.alloc, job.batch, from, objects, end)?;
-        let nets = &mut reused.nets;
-        let seen = check(job, opened, from..end, &mut workspace, window, nets)?;
-        if seen.first < end {
-            reused.take_back(workspace);
-            return Ok(seen);
-        }
-        from = end;
-        block = block.saturating_mul(2);
-    }
+    let nets = &mut reused.nets;
+    let seen = seek_in(job, opened, expected, &mut workspace, window, nets)?;
     reused.take_back(workspace);
-    let upto = reused.nets.len();
-    Ok(FirstConflict { first: from, upto })
+    Ok(seen)
 }

@@ -6,8 +6,9 @@ ghost use Rattle.claims.specs.Views.{bit};
 ghost use Rattle.rounds.specs.Workspaces.{IsReadyOn};
 ghost use Rattle.rounds.specs.Passes.{CanBeMade};
 ghost use Rattle.rounds.specs.PendingRuns.{IsPendingOf, HoldsPast};
+ghost use Rattle.rounds.specs.Repeated.{Repeats};
 ghost use Rattle.rounds.specs.Views.{blocks_of, meaning};
-ghost use Rattle.rounds.specs.Windows.{run_at, flag_at, end_of, runs_between, IsValid, AllValid, IsWindowAt, IsOpenedBy, HasGrown, IsPutInWindow, AreFallen, AreStale, AreKept, IsFreedAt, AreCleared, AreSettled, IsShortened, AreMissing, IsDecided, Told, ArePassing};
+ghost use Rattle.rounds.specs.Windows.{run_at, flag_at, end_of, runs_between, IsValid, AllValid, IsWindowAt, IsOpenedBy, HasGrown, IsPutInWindow, AreFallen, AreStale, AreKept, IsFreedAt, AreMovedUp, AreSettled, IsShortened, IsRenewed, AreMissing, IsDecided, Told, ArePassing};
 ghost use Rattle.rounds.specs.declared.pending_run.PendingRun.{PendingRun as OnePending};
 ghost use Rattle.meaning.specs.declared.limits.TheConstants.{MAX_TRANSACTIONS};
 ghost use Rattle.plan.specs.declared.plan.TheConstants.{MAX_WORKERS};
@@ -454,6 +455,36 @@ impl Window {
         Ok(())
     }
 
+    /// Whether the run with this number is valid, and its calls are known to get the same replies on
+    /// other objects. It is a run on these, too, then.
+    pub(crate) fn repeats(&self, number: usize, objects: &Objects) -> bool
+        requires flags { length self.now.valid.items ≡ length self.now.runs.items }
+        requires number { self.now.first ≤ number }
+        ensures valid { IsTrue result → IsValid self.now number }
+        ensures repeats { IsTrue result
+            → (d : OnePending) → Repeats objects.now (run_at self.now number d) }
+    {
+        let place = number - self.first;
+        if place >= self.valid.len() {
+            return false;
+        }
+        if !self.valid[place] {
+            return false;
+        }
+        self.runs[place].repeats(objects)
+    }
+
+    /// Makes the run with this number valid, where it is one on the objects of the next opening.
+    pub(crate) fn renew(&mut self, number: usize, again: bool)
+        requires flags { length self.old.valid.items ≡ length self.old.runs.items }
+        requires number { IsTrue again → (self.old.first ≤ number) × (number < end_of self.old) }
+        ensures { IsRenewed number again self.old self.new }
+    {
+        if again {
+            self.valid[number - self.first] = true;
+        }
+    }
+
     /// Drops the runs from one number on.
     pub(crate) fn shorten(&mut self, end: usize)
         ensures { IsShortened end self.old self.new }
@@ -472,20 +503,29 @@ impl Window {
         self.runs[place].free_sums(alloc);
     }
 
-    // The runs at the first places aren't valid any more.
-    fn clear(&mut self, count: usize)
-        requires { count ≤ length self.old.valid.items }
-        ensures { AreCleared count self.old self.new }
+    // Brings the runs past the first places to the front, in their order. Those that were there come
+    // to the end, and aren't valid any more. They are no fewer.
+    fn move_up(&mut self, count: usize)
+        requires flags { length self.old.valid.items ≡ length self.old.runs.items }
+        requires inside { count ≤ length self.old.runs.items }
+        requires half { length self.old.runs.items ≤ count + count }
+        ensures { AreMovedUp count self.old self.new }
     {
-        for place in 0..count {
+        let left = self.runs.len() - count;
+        for place in 0..left {
+            self.runs.swap(place, count + place);
+            self.valid[place] = self.valid[count + place];
+        }
+        for place in left..self.valid.len() {
             self.valid[place] = false;
         }
     }
 
     /// Moves the records of the runs from one number on and before another to the end of a list.
     /// Those of the runs before them were moved earlier. The memory of all these runs is kept for
-    /// runs of later transactions: where they have at least half of the places, these come to the
-    /// end, and the window begins after them. So a transaction costs two moves of a place at most.
+    /// runs of later transactions: where they have at least half of the places, these are exchanged
+    /// with the later ones, with which the window begins. So a transaction costs one exchange of two
+    /// places at most.
     ///
     /// Returns `NoMemory` where a request for memory was refused.
     pub(crate) fn settle(
@@ -505,9 +545,7 @@ impl Window {
             records.push(self.runs[place].take_record(alloc))?;
         }
         if count >= self.runs.len() - count {
-            self.clear(count);
-            self.runs.rotate_left(count);
-            self.valid.rotate_left(count);
+            self.move_up(count);
             self.first = end;
         }
         Ok(())

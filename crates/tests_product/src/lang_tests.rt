@@ -34,6 +34,21 @@ fn document_in_other_order(
     text
 }
 
+/// The same document, with its members sorted by name.
+fn document_sorted(
+    rt: &(impl Abort + AllocGlobal),
+    version: u32,
+    objects: &str,
+    transactions: &str,
+) -> String {
+    let Ok(text) = format!(in rt.alloc();
+        "{{\"objects\":[{objects}],\"ordtx\":{version},\"transactions\":[{transactions}]}}"
+    ) else {
+        panic!(rt; "no memory")
+    };
+    text
+}
+
 /// Appends a part to a text.
 fn append(rt: &impl Abort, text: &mut String, part: &str) {
     let Ok(()) = text.push_str(part) else {
@@ -213,6 +228,26 @@ fn the_same_is_read_without_a_tree(rt: HostRuntime) {
     reads_alike_turned(&rt, transactions.as_str());
     reads_alike_replaced(&rt, ",", " ,\n ");
     reads_alike_replaced(&rt, "{\"op\"", "{\"op\":1,\"op\"");
+}
+
+const SORTED: &str =
+    "{\"kind\":\"set\",\"name\":\"ordtx\",\"start\":[\"ordtx\",\"x\"]},{\"kind\":\"max\",\"name\":\"m\",\"start\":7}";
+
+const NAMED_FIRST: &str =
+    "{\"name\":\"ordtx\",\"kind\":\"set\",\"start\":[\"ordtx\",\"x\"]},{\"name\":\"m\",\"kind\":\"max\",\"start\":7}";
+
+/// The start of the first object comes twice, and the first one has a member `ordtx`.
+const MISLEADING: &str =
+    "{\"start\":{\"ordtx\":1},\"kind\":\"set\",\"name\":\"ordtx\",\"start\":[\"ordtx\",\"x\"]},{\"kind\":\"max\",\"name\":\"m\",\"start\":7}";
+
+#[test]
+fn sorted_members_are_read_alike(rt: HostRuntime) {
+    let steps = "[{\"op\":[\"ordtx\",\"insert\",\"y\"]},{\"op\":[\"m\",\"raise\",9]}]";
+    let text = document(&rt, 4, NAMED_FIRST, steps);
+    for objects in [SORTED, NAMED_FIRST, MISLEADING] {
+        let sorted = document_sorted(&rt, 4, objects, steps);
+        reads_alike(&rt, text.as_str(), sorted.as_str());
+    }
 }
 
 const SUB: &str = "\"sub\":[{\"op\":[\"q\",\"enq\",\"e\"]}]";

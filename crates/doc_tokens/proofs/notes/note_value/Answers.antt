@@ -33,6 +33,18 @@ returns-in-BeginObject-clause-ok c =
       (done.0, refl, done.2),
     )
 
+pub returns-in-BeginObject-clause-counted : goal.returns-in-BeginObject-clause-counted
+returns-in-BeginObject-clause-counted c =
+    let first : c.args.reader.now ≡ token_of c.in_ok-token.token ∷ c.next.new.self = grind arith in
+    let done = c.in_ok-notes.ensures.counted in record {
+      within = c.next.new.self;
+      written = done.0;
+      rest = c.note_members.new.reader;
+      begins = first ∙ ap (λ k. token_of k ∷ c.next.new.self) c.in-BeginObject.is;
+      reads = done.1;
+      counted = done.2;
+    }
+
 pub returns : goal.returns
 returns c =
     let first : c.args.reader.now ≡ token_of c.in_ok-token.token ∷ c.next.new.self = grind arith in
@@ -44,5 +56,6 @@ returns c =
         no_object 127 c.in_ok-token.token c.next.new.self c.pass_from.new.reader done.0 (omega arith) c.in_default.not-BeginObject
             (done.1 127 (omega arith)),
       );
+      counted = tt;
       err = tt;
     }

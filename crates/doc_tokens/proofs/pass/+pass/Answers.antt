@@ -20,9 +20,8 @@ use Rattle.doc_tokens.specs.Pulled.{ReadsValue}
 use Rattle.doc_tokens.proofs.PulledLemmas.{reads_array, reads_boolean, reads_deeper, reads_item, reads_member, reads_no_items}
 use Rattle.doc_tokens.proofs.PulledLemmas.{reads_no_members}
 use Rattle.doc_tokens.proofs.PulledLemmas.{reads_null, reads_number, reads_object, reads_shorter, reads_string}
-use Rattle.doc_tokens.proofs.PassLemmas.{array_opened, each_err, item_behind, item_read, item_refused, key_refused, member_read}
-use Rattle.doc_tokens.proofs.PassLemmas.{member_refused}
-use Rattle.doc_tokens.proofs.PassLemmas.{none_before, object_opened}
+use Rattle.doc_tokens.proofs.PassLemmas.{array_opened, each_err, item_behind, item_read, item_refused, key_refused, member_read, stray}
+use Rattle.doc_tokens.proofs.PassLemmas.{member_refused, none_before, object_opened}
 use Rattle.doc_tokens.proofs.pass.+pass.Goals as goal
 
 -- a value of one token that is no number
@@ -44,19 +43,6 @@ plain depth token rest (inr (inr w)) = (
   subst (λ k. ReadsValue depth (token_of k ∷ rest) null rest) (sym w) (reads_null depth rest),
   refl,
 )
-
--- a token with which no value begins
-stray : (depth : ℕ) (token : Lent) (rest : List Token)
-    → (token ≡ lent.EndObject) ⊎ ((token ≡ lent.EndArray) ⊎ (((s : Bor (List ℕ)) × (token ≡ lent.Key s)) ⊎ (token ≡ lent.Bad)))
-    → converted of_json (value depth (token_of token ∷ rest)) ≡ None
-stray depth token rest (inl w) = ap (λ k. converted of_json (value depth (token_of k ∷ rest))) w
-    ∙ ap (converted of_json) (value_is depth (Token.end_object ∷ rest))
-stray depth token rest (inr (inl w)) = ap (λ k. converted of_json (value depth (token_of k ∷ rest))) w
-    ∙ ap (converted of_json) (value_is depth (Token.end_array ∷ rest))
-stray depth token rest (inr (inr (inl w))) = ap (λ k. converted of_json (value depth (token_of k ∷ rest))) w.1
-    ∙ ap (converted of_json) (value_is depth (Token.key w.0.now ∷ rest))
-stray depth token rest (inr (inr (inr w))) = ap (λ k. converted of_json (value depth (token_of k ∷ rest))) w
-    ∙ ap (converted of_json) (value_is depth (Token.bad ∷ rest))
 
 pub pass_from-returns-then-depth-eq0-clause-err : goal.pass_from-returns-then-depth-eq0-clause-err
 unfolding value

@@ -22,9 +22,9 @@ returns c =
     let entries : c.insert.new.self.entries ≡ insert_entry string_cmp before c.in_ok-key.key v = grind (arith, rules) in
     let inserted : members_view c.insert.new.self.entries ≡ put name (view v) (members_view before) =
     ap members_view entries ∙ members_view-insert_entry before c.in_ok-key.key v ∙ ap (λ n. put n (view v) (members_view before)) copied in
-    let rest = subst (λ found. ReadsMembers k found mid ms new) inserted c.in_ok-pull_members.ensures in (
+    let rest = subst (λ found. ReadsMembers k found mid ms new) inserted c.in_ok-pull_members.ensures.ok in (
       ms,
       view-Object found,
       reads_member k (members_view before) name (Token.key name ∷ c.args.reader.now) c.args.reader.now mid new (view v) ms refl
-          (omega arith) c.in_ok-member.ensures rest,
+          (omega arith) c.in_ok-member.ensures.ok rest,
     )

@@ -10,7 +10,7 @@ returns c =
     let none : members_view c.new.result.entries ≡ no_members = ap members_view c.new.ensures.empty in record {
       value = hs;
       reads = subst (λ before. ReadsMembers (5 * c.args.levels) before c.args.reader.now hs c.pull_members.new.reader) none
-          c.in_ok-members.ensures;
+          c.in_ok-members.ensures.ok;
       met = c.in_ok-handlers.ensures.met;
       spelled = c.in_ok-handlers.ensures.value;
       scope = c.in_ok-handlers.ensures.labels;

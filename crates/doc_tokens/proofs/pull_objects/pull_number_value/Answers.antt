@@ -10,6 +10,6 @@ returns-in-Some-Number c =
     let new = c.next.new.self in
     let s = c.in-Some-Number.text.now in
     let tokens : c.args.reader.now ≡ Token.number s ∷ new = grind (arith, rules) in
-    IfOk_then c.number_value.result c.number_value.ensures
+    IfOk_then c.number_value.result c.number_value.ensures.ok
     (λ v w. subst (λ d. ReadsValue 0 c.args.reader.now d new) (sym w.2)
     (subst (λ ts. ReadsValue 0 ts (number w.0) new) (sym tokens) (reads_number 0 s w.0 new w.1)))

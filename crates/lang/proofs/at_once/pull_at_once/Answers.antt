@@ -1,4 +1,4 @@
-use Rattle.std.proofs.Common.{◌≡◌, ◌<◌, ◌+◌, ◌-◌, [], ◌∷◌, ◌++◌, length, map, take, drop, get_or, sym, subst, ap, ◌∙◌, arith, rules}
+use Rattle.std.proofs.Common.{◌≡◌, ◌<◌, ◌+◌, ◌-◌, [], ◌∷◌, ◌++◌, length, take, drop, get_or, sym, subst, ap, ◌∙◌, arith, rules}
 use Rattle.std.proofs.lemmas.List.{drop_more, length-map, take-append-drop}
 use Rattle.std.specs.Prelude.{false, true, slice_index, slice_range, IfSome}
 use Rattle.json.specs.Lex.{tokens}
@@ -8,7 +8,11 @@ use Rattle.doc_cuts.specs.Whole.{is_open}
 use Rattle.doc_cuts.proofs.Places.{tokens_opened}
 use Rattle.doc_tokens.specs.Ranges.{IsHead, reached}
 use Rattle.doc_tokens.proofs.RangeLemmas.{head_longer, head_whole}
+use Rattle.doc_merge.specs.Parts.{reached_by}
+use Rattle.doc_tree.specs.Answer.{AreMet}
+use Rattle.doc_tree.specs.Places.{placed}
 use Rattle.doc_tree.specs.Scope.{numbers_of, setting_of}
+use Rattle.doc_tree.specs.Spelled.{parts_in}
 use Rattle.lang.specs.AtOnce.{Follow}
 use Rattle.lang.proofs.AtOnceLaws.{all_alone, all_through}
 use Rattle.lang.proofs.at_once.pull_at_once.Goals as goal
@@ -19,13 +23,12 @@ returns g c =
     let k = c.in_ok-bracket.bracket in
     let declared = c.in_ok-declared.declared in
     let setting = setting_of declared in
-    let start = c.args.state.now.counts in
-    let numbers = numbers_of c.args.state.now.numbering in
+    let start = c.new-state.result.counts in
+    let numbers = numbers_of c.new-state.result.numbering in
     let opened = c.read_head.new.state in
     let mid = opened.counts in
     let between = numbers_of opened.numbering in
-    let blocks = map block_view c.in_ok-transactions.transactions.items in
-    let q = reached c.merge_ranges.new.state blocks in
+    let q = reached_by c.in_ok-merged.merged in
     let front = take k t in
     let inside = drop (k + 1) t in
     let same : c.as_bytes-bytes.result.now ≡ t = search rules in
@@ -45,9 +48,15 @@ returns g c =
     let follow = subst (Follow t (k + 1)) listed
     (subst (λ bs. Follow bs (k + 1) c.deref-2.result.now) same (c.follow.ensures c.if-not-follow.false)) in
     let alone = all_alone setting t c.in_ok-reads.reads.items c.in_ok-found.found.items c.in_ok-reads.ensures c.in_ok-found.ensures in
-    let done = c.in_ok-transactions.ensures in
+    let done = c.in_ok-merged.ensures in
     let through = all_through setting t c.in_ok-reads.reads.items (k + 1) (reached opened []) q follow alone done.read in
     let longer = head_longer declared start numbers (tokens front) [] (begin_array ∷ tokens inside) mid between head in
-    head_whole declared start numbers (tokens t) (tokens inside) mid between q
+    let whole = head_whole declared start numbers (tokens t) (tokens inside) mid between q
     (subst (λ ts. IsHead ts (begin_array ∷ tokens inside) declared start numbers mid between) (sym both) longer)
-    through.1 (omega (arith, done.few, length-map c.in_ok-transactions.transactions.items block_view))
+    through.1 (omega (arith, done.few, length-map c.in_ok-merged.merged.transactions.items block_view)) in (
+      whole.0,
+      whole.1,
+      subst (λ s. AreMet s (placed whole.0) q.counts) c.new-state.ensures.counts whole.2,
+      whole.3,
+      whole.4 ∙ ap (λ n. parts_in n whole.0) c.new-state.ensures.numbers,
+    )

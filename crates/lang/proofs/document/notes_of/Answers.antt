@@ -1,7 +1,10 @@
-use Rattle.std.proofs.Common.{◌≡◌, [], subst, arith, rules}
+use Rattle.std.proofs.Common.{◌≡◌, ◌∙◌, [], ap, subst, arith, rules}
 use Rattle.json.specs.Lex.{tokens}
 use Rattle.doc_tokens.specs.Pulled.{ReadsValue}
+use Rattle.std.specs.Prelude.{IfSome}
+use Rattle.doc_tokens.specs.Passed.{AreCounted}
 use Rattle.lang.proofs.RefusedLemmas.{no_value, value_known}
+use Rattle.lang.proofs.SinglyLemmas.{if_some}
 use Rattle.lang.proofs.document.notes_of.Goals as goal
 
 pub returns-in_default : goal.returns-in_default
@@ -15,4 +18,11 @@ returns c =
     let ended : c.note_value.new.reader ≡ [] = grind (arith, rules) in
     let begun : c.in_ok-reader.reader ≡ tokens text = c.in_ok-reader.ensures.ok in
     let reads = subst (λ ts. ReadsValue 127 ts d []) begun (subst (λ ts. ReadsValue 127 c.in_ok-reader.reader d ts) ended done.1) in
-    (d, value_known c.args.bytes.now text 127 d (omega arith) c.in-Some.ensures.0 c.in-Some.ensures.1 reads, done.2)
+    let counted = subst (λ ts. IfSome c.in-Ok.noted (λ lists. AreCounted lists ts)) (begun ∙ ap tokens c.in-Some.ensures.1)
+    c.in-Ok.ensures.counted in (
+      d,
+      value_known c.args.bytes.now text 127 d (omega arith) c.in-Some.ensures.0 c.in-Some.ensures.1 reads,
+      done.2,
+      if_some c.in-Ok.noted _ _ counted
+          (λ lists noted. (subst (λ t. ReadsValue 127 (tokens t) d []) c.in-Some.ensures.1 reads, noted)),
+    )

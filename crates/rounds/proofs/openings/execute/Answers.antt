@@ -1,4 +1,4 @@
-use Rattle.std.proofs.Common.{◌≡◌, ◌≤◌, ◌+◌, ◌-◌, ℕ, false, length, get_or, ap, sym, subst, arith}
+use Rattle.std.proofs.Common.{◌≡◌, ◌≤◌, ◌+◌, ◌-◌, ℕ, false, length, get_or, refl, ap, sym, subst, arith}
 use Rattle.std.proofs.lemmas.List.{length-map}
 use Rattle.std.specs.declared.vec.Vec.{Vec}
 use Rattle.std.specs.declared.alloc.Global.{Global}
@@ -34,7 +34,7 @@ opening-preserved g c =
     record {
       at = subst (λ b. IsOpening b new) same c.in_ok-round.ensures.at;
       counts = subst (λ b. AreCountsOn b new new.rounds counts) same
-          (round_counted batch middle new counts c.in_ok-round.ensures.round c.in_ok-make_rest.ensures.valid
+          (round_counted batch middle new counts (c.in_ok-round.ensures.round refl) c.in_ok-make_rest.ensures.valid
           (subst (λ n. AreCountsOn batch middle (n + 1) counts) (sym c.in_ok-make_rest.ensures.rounds)
           c.in_ok-make_rest.ensures.counts));
     }
@@ -44,7 +44,7 @@ opening-smaller g c =
     let going = c.opening-test.true in
     let count = c.len-in-opening.ensures in
     let same = c.in_ok-make_rest.ensures.same in
-    let on = c.in_ok-round.ensures.round.on in
+    let on = c.in_ok-round.ensures.on in
     omega arith
 
 pub returns-clause-answer : goal.returns-clause-answer

@@ -17,7 +17,7 @@ pub opening-smaller : goal.opening-smaller
 opening-smaller g c =
     let going = c.opening-test.true in
     let count = c.len.ensures in
-    let on = c.in_ok-round.ensures.round.on in
+    let on = c.in_ok-round.ensures.on in
     let same = c.drop_later.ensures.same in
     omega arith
 

@@ -8,6 +8,7 @@ pub returns-then-whole-clause-sums : goal.returns-then-whole-clause-sums
 returns-then-whole-clause-sums c =
     let same = c.requires.whole c.if-whole.true in
     record {
+      whole = λ none. same;
       entries_are = c.in_ok-span.ensures.summary;
       net_is = subst (IsSummary (entries_of c.summarize.new.summary.items)) (sym same) c.in_ok-span.ensures.summary;
     }

@@ -33,7 +33,7 @@ returns-then-count-len c =
     let over = c.loop-place-test.false in
     let within = c.loop-place.auto.place-end in
     let all : c.loop-place.place ≡ count = omega arith in
-    moved c.args.from c.args.end (c.args.from - old.first) count old c.loop-place.self c.clear.new.self _ c.args.records.now
+    moved c.args.from c.args.end (c.args.from - old.first) count old c.loop-place.self c.move_up.new.self _ c.args.records.now
     c.loop-place.records c.requires.flags low ordered high refl refl
     (subst (λ n. AreTaken (c.args.from - old.first) n old c.loop-place.self c.args.records.now.items c.loop-place.records.items) all so_far)
-    c.clear.ensures refl c.rotate_left.ensures.items c.rotate_left-then-count-len.ensures.items
+    c.move_up.ensures refl refl refl
